@@ -1,0 +1,11 @@
+pub mod Faith
+pub mod Judged
+pub mod Loops
+pub mod Opened
+pub mod Pads
+pub mod Same
+pub mod Sealed
+pub mod Splits
+pub mod Trips
+pub mod Unpads
+pub mod Widths

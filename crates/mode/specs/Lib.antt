@@ -1,0 +1,7 @@
+pub mod Limits
+pub mod Padding
+pub mod Steps
+pub mod Faults
+pub mod Sealing
+pub mod Opening
+pub mod Laws

@@ -1,0 +1,59 @@
+-- The steps of the mode over a mixer's function f, and byte strings that are put through them, n bytes to a block.
+use mathlib.Core.List.{List, _++_}
+use Prim.Native.Nat.{ℕ, zero, suc, _/_}
+use lib.ListN.{length, take, drop}
+use Rattle.mixers.specs.Bytes.{xorBytes}
+use Rattle.mixers.specs.Halves.{Halves, halves}
+use Rattle.mode.specs.declared.way.Way.{Way}
+use Rattle.mode.specs.declared.way.Way.the-variants.{Seal, Open}
+
+-- What one step gives: the next state, the message block of this step, and the block that is written in place of the one that stood there.
+pub record Turn : Type 0 where
+  pub state : Halves
+  pub prev : List ℕ
+  pub block : List ℕ
+
+abbrev pub turn : Halves → List ℕ → List ℕ → Turn
+turn s p b = record { state = s; prev = p; block = b }
+
+-- a step, from the state, the message block of the step before, and the block that stands there
+abbrev pub Step : Type 0
+Step = Halves → List ℕ → List ℕ → Turn
+
+-- with y'‖y = f (x'‖x), the next state is (y' ⊕ m)‖(y ⊕ prev), and y' ⊕ m is the ciphertext block
+abbrev pub sealStep : (Halves → Halves) → Step
+sealStep f s prev m = turn (halves (xorBytes (f s .upper) m) (xorBytes (f s .lower) prev)) m (xorBytes (f s .upper) m)
+
+-- with y'‖y = f (x'‖x), the message block is y' ⊕ c, and the next state is c‖(y ⊕ prev)
+abbrev pub openStep : (Halves → Halves) → Step
+openStep f s prev c = turn (halves c (xorBytes (f s .lower) prev)) (xorBytes (f s .upper) c) (xorBytes (f s .upper) c)
+
+abbrev pub stepOf : Way → (Halves → Halves) → Step
+stepOf Seal f = sealStep f
+stepOf Open f = openStep f
+
+-- the first k blocks of xs through the step g: xs with each block replaced, and what follows them as it was
+abbrev pub runOut : Step → ℕ → ℕ → Halves → List ℕ → List ℕ → List ℕ
+runOut g n zero s prev xs = xs
+runOut g n (suc k) s prev xs =
+    g s prev (take n xs) .block ++ runOut g n k (g s prev (take n xs) .state) (g s prev (take n xs) .prev) (drop n xs)
+
+-- the state after them
+abbrev pub runState : Step → ℕ → ℕ → Halves → List ℕ → List ℕ → Halves
+runState g n zero s prev xs = s
+runState g n (suc k) s prev xs = runState g n k (g s prev (take n xs) .state) (g s prev (take n xs) .prev) (drop n xs)
+
+-- the last message block, or the one before where there is none
+abbrev pub runPrev : Step → ℕ → ℕ → Halves → List ℕ → List ℕ → List ℕ
+runPrev g n zero s prev xs = prev
+runPrev g n (suc k) s prev xs = runPrev g n k (g s prev (take n xs) .state) (g s prev (take n xs) .prev) (drop n xs)
+
+-- the same for all blocks of xs
+abbrev pub allOut : Step → ℕ → Halves → List ℕ → List ℕ → List ℕ
+allOut g n s prev xs = runOut g n (length xs / n) s prev xs
+
+abbrev pub allState : Step → ℕ → Halves → List ℕ → List ℕ → Halves
+allState g n s prev xs = runState g n (length xs / n) s prev xs
+
+abbrev pub allPrev : Step → ℕ → Halves → List ℕ → List ℕ → List ℕ
+allPrev g n s prev xs = runPrev g n (length xs / n) s prev xs

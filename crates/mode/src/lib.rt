@@ -1,0 +1,16 @@
+// Sealing and opening byte strings under any mixer: the mode JHAE.
+mod bytes;
+mod chain;
+mod fault;
+mod guard;
+mod limits;
+mod opening;
+mod padding;
+mod sealing;
+mod way;
+
+pub use fault::Fault;
+pub use limits::DATA_MOST;
+pub use limits::MESSAGE_MOST;
+pub use opening::open;
+pub use sealing::seal;
