@@ -1,5 +1,5 @@
 // The exchange: the two blocks of a state change places. It hides nothing, and serves the factory bench with public keys.
-ghost use Rattle.mixers.specs.Exchange.{exchanged, exchangeMark, exchanged-lawful};
+ghost use Rattle.mixers.specs.Exchange.{exchanged, exchangeMark, exchange-lawful};
 use crate::mixer::Mixer;
 use crate::state::State;
 
@@ -11,7 +11,7 @@ pub impl Mixer<16> for Exchange as ExchangeMixer {
 
     ghost mixing = { λ _. exchanged };
 
-    ghost laws = { λ _. exchanged-lawful };
+    ghost laws = { λ _. exchange-lawful };
 
     fn mix(&self, state: &mut State<16>) {
         let upper = state.upper;

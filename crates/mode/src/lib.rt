@@ -10,6 +10,9 @@ mod sealing;
 mod way;
 
 pub use fault::Fault;
+pub use fault::FaultDebug;
+pub use fault::FaultEq;
+pub use fault::FaultPartialEq;
 pub use limits::DATA_MOST;
 pub use limits::MESSAGE_MOST;
 pub use opening::open;
