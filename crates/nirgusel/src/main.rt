@@ -2,39 +2,54 @@
 // tag.
 mod bench;
 
-use bench::Completed;
-use bench::seal_and_open;
+use bench::CIPHER;
+use bench::SEALED;
+use bench::TEXT;
+use bench::open_text;
+use bench::seal_text;
 use std::error::AnyError;
 
-fn show(rt: &impl Print, done: &Completed) -> Result<(), AnyError> {
-    println!(
-        rt,
-        "sealed: {} bytes of text as {} of ciphertext and {} of tag",
-        done.text,
-        done.cipher,
-        done.tag
-    )?;
-    println!(rt, "opened: {} bytes, the text that was sealed", done.opened)?;
-    println!(
-        rt,
-        "damaged tag: refused with code {}, {} bytes of zeros left",
-        done.refusal,
-        done.zeros
-    )?;
-    println!(rt, "completed: 1 text sealed, 1 opened, 1 damaged copy refused")?;
-    Ok(())
-}
-
+// Prints each thing that it completed.
 fn run(rt: &impl Print) -> Result<(), AnyError> {
-    println!(rt, "Nirgusel seals grade sheets for the scanners of a paper mill.")?;
-    println!(rt, "worked examples proved: {}", examples::worked_examples())?;
-    match seal_and_open() {
-        Ok(done) => show(rt, &done),
-        Err(fault) => {
-            println!(rt, "not completed: refused with code {}", fault.code())?;
-            Err("the bench run was refused".into())
+    println!(
+        rt,
+        "Nirgusel: grade sheets, sealed at the office and opened at the scanner"
+    )?;
+    let proved = examples::worked_examples();
+    println!(rt, "worked examples proved: {proved}")?;
+
+    let mut sealed = [0; SEALED];
+    let Ok((cipher, all)) = seal_text(&mut sealed) else {
+        return Err("sealing was refused".into());
+    };
+    let length = TEXT.len();
+    println!(
+        rt,
+        "sealed a text of {length} bytes: ciphertext {cipher}, with the tag {all}"
+    )?;
+
+    let mut text = [0xff; CIPHER];
+    match open_text(&sealed, &mut text) {
+        Ok(opened) if opened == length && text[0..51] == TEXT[..] => {
+            println!(rt, "opened the same text of {opened} bytes")?;
         }
+        _ => return Err("the sealed text did not open".into()),
     }
+
+    sealed[SEALED - 1] ^= 1;
+    text = [0xff; CIPHER];
+    match open_text(&sealed, &mut text) {
+        Err(fault) if text == [0; CIPHER] => {
+            let code = fault.code();
+            println!(
+                rt,
+                "refused a copy with a damaged tag: code {code}, {CIPHER} bytes left zero"
+            )?;
+        }
+        _ => return Err("a damaged copy was not refused".into()),
+    }
+    println!(rt, "completed: 1 sealed, 1 opened, 1 refused")?;
+    Ok(())
 }
 
 fn main(rt: LibcRuntime) -> Result<(), AnyError> {
