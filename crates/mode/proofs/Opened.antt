@@ -122,7 +122,7 @@ module _ (f : Halves → Halves) (B mark : ℕ) (law : Lawful B mark f) (K N A C
     pub law-holds : OnlySealed f B K N A C T r end
 
   pub at-refusal : (check : Result (Unit {0}) Fault) (u : Unit {0}) (x : Fault) (r : Result ℕ Fault) (end : List ℕ)
-      → Ok u ≡ check → messageAnswer (judged B (8 * length N) (8 * length A) tag T ts) ≡ Err x → r ≡ Err x → end ≡ over (replicate (length C) 0) o₂
+      → Ok u ≡ check → messageAnswer (judged B (8 * length N) (8 * length A) tag T ts) ≡ Err x → r ≡ Err x → end ≡ replicate (length C) 0 ++ drop (length C) o₂
       → Ends check r end
   at-refusal check u x r end ok e er is =
       let m = opens f B K N A C T in
@@ -130,7 +130,7 @@ module _ (f : Halves → Halves) (B mark : ℕ) (law : Lawful B mark f) (K N A C
       let e′ : messageAnswer m ≡ Err x = ap messageAnswer (sym judged-opens) ∙ e in
       let none : m ≡ None = answer-err m x e′ in
       let lz : length zs ≡ length C = length-replicate (length C) 0 in
-      let left : over zs o₂ ≡ over zs o = ap (λ k. zs ++ drop k o₂) lz ∙ ap (λ y. zs ++ y) rest ∙ ap (λ k. zs ++ drop k o) (sym lz) in
+      let left : zs ++ drop (length C) o₂ ≡ over zs o = ap (λ y. zs ++ y) rest ∙ ap (λ k. zs ++ drop k o) (sym lz) in
       record {
         answer = er ∙ sym e′ ∙ ap (λ k. answered k m) ok;
         buffer = is ∙ left ∙ ap (λ y. over (messageText (length C) y) o) (sym none) ∙ ap (λ k. leftIn k (length C) m o) ok;

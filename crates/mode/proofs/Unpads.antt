@@ -16,11 +16,12 @@ use Rattle.std.proofs.shelf.Tests.{leb-true, le-leb, and-parts, and-from, cases
 use Rattle.mode.specs.declared.fault.Fault.the-variants.{NotAuthentic}
 use Rattle.std.specs.shelf.Text.{sameBytes}
 use Rattle.mixers.specs.Bytes.{lowBytes}
-use Rattle.mode.specs.Limits.{messageMost}
+use Rattle.mode.specs.Limits.{dataMost, messageMost}
 use Rattle.mode.specs.Padding.{nonceBits, trailerNumber, trailer, padMessage, padsTo, unpaddedBelow, unpadded}
 use Rattle.mode.specs.Sealing.{cipherLength}
 use Rattle.mode.specs.Opening.{messageAnswer}
 use Rattle.std.proofs.shelf.Equals.{sameBytes-decides}
+use Rattle.mode.proofs.Widths.{some}
 use Rattle.mode.proofs.Pads.{length-trailer, length-message, length-padMessage, padMessage-is, blocks-hold}
 
 getD-zeros : (k i : ℕ) → _≡_ {A = ℕ} (getD (replicate k 0) i 0) 0
@@ -181,19 +182,47 @@ module _ (B ν α : ℕ) (some : 0 < B) (a : ν ≤ 256) (b : α ≤ 32768) wher
   none-of p None e no′ = refl
   none-of p (Some M) e no′ = absurd (let u = unpads p M e in no′ M (u .0) (u .1))
 
-  pub forged : (p : List ℕ) → ((M : List ℕ) → length M ≤ messageMost → padMessage B ν α M ≡ p → ⊥) → Err NotAuthentic ≡ messageAnswer (unpadded B ν α p)
-  forged p no′ = none-of p (unpadded B ν α p) refl no′
+-- how a padding ends: r is where its zeros begin
+pub record Ended (B ν α : ℕ) (p : List ℕ) (r : ℕ) : Type 0 where
+  pub low : 13 ≤ r
+  pub high : r ≤ messageMost + 13
+  pub size : length p ≡ cipherLength B (r - 13)
+  pub last : trailer B ν α (8 * (r - 13)) ≡ take (r - (r - 13)) (drop (r - 13) p)
 
-  -- the test of the code: the trailer stands before the zeros, and no block is too many
-  pub accepted : (p t : List ℕ) (r : ℕ) → Reaches p r → r ≤ length p → 13 ≤ r → r ≤ 65549 → length p ≡ cipherLength B (r - 13) → t ≡ trailer B ν α (8 * (r - 13)) → t ≡ take (r - (r - 13)) (drop (r - 13) p) → Ok (r - 13) ≡ messageAnswer (unpadded B ν α p)
-  accepted p t r R in′ lo hi size et e =
-      let n = r - 13 in
-      let M = take n p in
-      let lM : length M ≡ n = length-take-le n p (omega arith) in
-      let k : r - n ≡ 13 = omega arith in
-      let k′ : n + 13 ≡ r = omega arith in
-      let rest : drop 13 (drop n p) ≡ replicate (cipherLength B n - (n + 13)) 0 = drop-drop 13 n p ∙ ap (λ x. drop x p) k′ ∙ R .zeros ∙ ap (λ x. replicate (x - r) 0) size ∙ ap (λ x. replicate (cipherLength B n - x) 0) (sym k′) in
-      let tr : take 13 (drop n p) ≡ trailer B ν α (8 * n) = sym (e ∙ ap (λ x. take x (drop n p)) k) ∙ et in
-      let is : p ≡ (M ++ trailer B ν α (8 * n)) ++ replicate (cipherLength B n - (n + 13)) 0 = sym (take-append-drop n p) ∙ ap (λ x. M ++ x) (sym (take-append-drop 13 (drop n p))) ∙ ap (λ x. M ++ (x ++ drop 13 (drop n p))) tr ∙ ap (λ x. M ++ (trailer B ν α (8 * n) ++ x)) rest ∙ sym (append-assoc M (trailer B ν α (8 * n)) _) in
+-- p is a padding just where it ends so; nonce and data have n and m bytes
+module _ (B n m : ℕ) (width : (B ≡ 16) ⊎ (B ≡ 32)) (hn : n ≤ 32) (hm : m ≤ dataMost) (p : List ℕ) (r : ℕ) (zeros : drop r p ≡ replicate (length p - r) 0) where
+  full : 0 < B
+  full = some B width
+
+  short : 8 * n ≤ 256
+  short = omega arith
+
+  few-data : 8 * m ≤ 32768
+  few-data = omega arith
+
+  pub refused : (0 < r → getD p (r - 1) 0 ≡ 0 → ⊥) → (Ended B (8 * n) (8 * m) p r → ⊥) → Err NotAuthentic ≡ messageAnswer (unpadded B (8 * n) (8 * m) p)
+  refused top not-so = none-of B (8 * n) (8 * m) full short few-data p (unpadded B (8 * n) (8 * m) p) refl (λ M l e.
+      let at = reach-is B (8 * n) (8 * m) full short few-data M p r l e (record { zeros = zeros; last = top }) in
+      let k : length M ≡ r - 13 = omega arith in
+      let all : 13 ≡ r - (r - 13) = omega arith in
+      not-so (record {
+        low = omega arith;
+        high = omega arith;
+        size = ap length (sym e) ∙ length-padMessage B (8 * n) (8 * m) M full ∙ ap (cipherLength B) k;
+        last = sym (ap (λ x. trailer B (8 * n) (8 * m) (8 * x)) k) ∙ sym (trailer-is B (8 * n) (8 * m) full short few-data M p e) ∙ ap (λ x. take 13 (drop x p)) k ∙ ap (λ x. take x (drop (r - 13) p)) all;
+      }))
+
+  pub accepted : r ≤ length p → Ended B (8 * n) (8 * m) p r → Ok (r - 13) ≡ messageAnswer (unpadded B (8 * n) (8 * m) p)
+  accepted inside E =
+      let ν = 8 * n in
+      let α = 8 * m in
+      let k = r - 13 in
+      let M = take k p in
+      let lM : length M ≡ k = length-take-le k p (omega arith) in
+      let all : r - k ≡ 13 = omega (arith, E .low) in
+      let back : k + 13 ≡ r = omega (arith, E .low) in
+      let rest : drop 13 (drop k p) ≡ replicate (cipherLength B k - (k + 13)) 0 = drop-drop 13 k p ∙ ap (λ x. drop x p) back ∙ zeros ∙ ap (λ x. replicate (x - r) 0) (E .size) ∙ ap (λ x. replicate (cipherLength B k - x) 0) (sym back) in
+      let tr : take 13 (drop k p) ≡ trailer B ν α (8 * k) = sym (E .last ∙ ap (λ x. take x (drop k p)) all) in
+      let is : p ≡ (M ++ trailer B ν α (8 * k)) ++ replicate (cipherLength B k - (k + 13)) 0 = sym (take-append-drop k p) ∙ ap (λ x. M ++ x) (sym (take-append-drop 13 (drop k p))) ∙ ap (λ x. M ++ (x ++ drop 13 (drop k p))) tr ∙ ap (λ x. M ++ (trailer B ν α (8 * k) ++ x)) rest ∙ sym (append-assoc M (trailer B ν α (8 * k)) _) in
       let pads : padMessage B ν α M ≡ p = padMessage-is B ν α M ∙ ap (λ x. (M ++ trailer B ν α (8 * x)) ++ replicate (cipherLength B x - (x + 13)) 0) lM ∙ sym is in
-      sym (ap messageAnswer (reads-back p M (omega arith) pads) ∙ ap Ok lM)
+      sym (ap messageAnswer (reads-back B ν α full short few-data p M (omega (arith, E .high)) pads) ∙ ap Ok lM)

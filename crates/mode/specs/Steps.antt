@@ -20,11 +20,15 @@ turn s p b = record { state = s; prev = p; block = b }
 abbrev pub Step : Type 0
 Step = Halves → List ℕ → List ℕ → Turn
 
--- with y'‖y = f (x'‖x), the next state is (y' ⊕ m)‖(y ⊕ prev), and y' ⊕ m is the ciphertext block
+-- y'‖(y ⊕ prev), with y'‖y = f (x'‖x)
+abbrev pub advanced : (Halves → Halves) → Halves → List ℕ → Halves
+advanced f s prev = halves (f s .upper) (xorBytes (f s .lower) prev)
+
+-- the ciphertext block is y' ⊕ m, and the next state (y' ⊕ m)‖(y ⊕ prev)
 abbrev pub sealStep : (Halves → Halves) → Step
 sealStep f s prev m = turn (halves (xorBytes (f s .upper) m) (xorBytes (f s .lower) prev)) m (xorBytes (f s .upper) m)
 
--- with y'‖y = f (x'‖x), the message block is y' ⊕ c, and the next state is c‖(y ⊕ prev)
+-- the message block is y' ⊕ c, and the next state c‖(y ⊕ prev)
 abbrev pub openStep : (Halves → Halves) → Step
 openStep f s prev c = turn (halves c (xorBytes (f s .lower) prev)) (xorBytes (f s .upper) c) (xorBytes (f s .upper) c)
 

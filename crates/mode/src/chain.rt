@@ -6,7 +6,7 @@ ghost use Rattle.mixers.specs.View.{view};
 ghost use Rattle.mode.specs.Laws.{Admitted};
 ghost use Rattle.mode.specs.Padding.{padData};
 ghost use Rattle.mode.specs.Sealing.{tagAt, dataState, dataPrev};
-ghost use Rattle.mode.specs.Steps.{sealStep, openStep, stepOf, runOut, runState, runPrev, allState, allPrev};
+ghost use Rattle.mode.specs.Steps.{advanced, sealStep, openStep, stepOf, runOut, runState, runPrev, allState, allPrev};
 use crate::bytes::tail;
 use crate::padding::pad_rest;
 use crate::way::Way;
@@ -22,14 +22,22 @@ pub(crate) struct Chain<const B: usize> {
 }
 
 impl<const B: usize> Chain<B> {
+    // Mixes the state, and adds the last block to its lower block.
+    fn advance<M: Mixer<B>>(&mut self, mixer: &M)
+        ensures state { λ _. ⌜ view (now (self .exit) .state) ≡ advanced (mixing (now (mixer .entry))) (view (now (self .entry) .state)) (now (self .entry) .prev .bytes) ⌝ }
+        ensures prev { λ _. ⌜ now (self .exit) .prev ≡ now (self .entry) .prev ⌝ }
+    {
+        mixer.mix(&mut self.state);
+        self.state.lower.xor(&self.prev);
+    }
+
     // Takes in a block of data or message; its ciphertext is then the upper block of the state.
     fn absorb<M: Mixer<B>>(&mut self, mixer: &M, block: &Block<B>)
         ensures state { λ _. ⌜ view (now (self .exit) .state) ≡ sealStep (mixing (now (mixer .entry))) (view (now (self .entry) .state)) (now (self .entry) .prev .bytes) (now (block .entry) .bytes) .state ⌝ }
         ensures prev { λ _. ⌜ now (self .exit) .prev .bytes ≡ now (block .entry) .bytes ⌝ }
     {
-        mixer.mix(&mut self.state);
+        self.advance(mixer);
         self.state.upper.xor(block);
-        self.state.lower.xor(&self.prev);
         self.prev = *block;
     }
 
@@ -38,8 +46,7 @@ impl<const B: usize> Chain<B> {
         ensures state { λ _. ⌜ view (now (self .exit) .state) ≡ openStep (mixing (now (mixer .entry))) (view (now (self .entry) .state)) (now (self .entry) .prev .bytes) (now (block .entry) .bytes) .state ⌝ }
         ensures prev { λ _. ⌜ now (self .exit) .prev .bytes ≡ openStep (mixing (now (mixer .entry))) (view (now (self .entry) .state)) (now (self .entry) .prev .bytes) (now (block .entry) .bytes) .prev ⌝ }
     {
-        mixer.mix(&mut self.state);
-        self.state.lower.xor(&self.prev);
+        self.advance(mixer);
         let mut message = self.state.upper;
         message.xor(block);
         self.state.upper = *block;

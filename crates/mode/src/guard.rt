@@ -1,8 +1,8 @@
 // The guard over a text that is not yet known to be authentic.
+ghost use mathlib.Core.List.{_++_};
 ghost use mathlib.Core.Path.{_≡_};
 ghost use Prim.Native.Nat.{_≤_};
-ghost use lib.ListN.{length, take, replicate};
-ghost use Rattle.mixers.specs.Bytes.{over};
+ghost use lib.ListN.{length, take, drop, replicate};
 use crate::bytes::zero;
 
 // Holds the text buffer. Unless it is released, the first `written` bytes of the buffer are zeros after it, whichever
@@ -15,7 +15,7 @@ pub(crate) struct WipeGuard<'a> {
 impl Drop for WipeGuard<'_> {
     fn drop(self)
         requires { ⌜ self .written ≤ length (now (self .buf)) ⌝ }
-        ensures { λ _. ⌜ now (self .exit .0) ≡ over (replicate (self .entry .written) 0) (now (self .entry .buf)) ⌝ }
+        ensures { λ _. ⌜ now (self .exit .0) ≡ replicate (self .entry .written) 0 ++ drop (self .entry .written) (now (self .entry .buf)) ⌝ }
     {
         let WipeGuard { buf, written } = self;
         zero(buf, 0, written);
