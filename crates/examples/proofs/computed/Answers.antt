@@ -2,8 +2,8 @@ use mathlib.Core.Path.{refl}
 use Rattle.mixers.specs.Bytes.{lowBytes}
 use Rattle.mode.specs.Padding.{filled, trailer, padMessage}
 use Rattle.mode.specs.Sealing.{dataState, dataPrev, cipherText, cipherTag}
-use Rattle.examples.proofs.worked_examples.Needs as need
+use Rattle.examples.proofs.computed.Needs as need
 
 pub returns : need.returns
 unfolding filled lowBytes trailer padMessage dataState dataPrev cipherText cipherTag
-returns c = record { hold = record { trailer-at-16 = refl; trailer-at-32 = refl; exchange-cipher = refl; exchange-tag = refl }; count = refl }
+returns c = record { trailer-at-16 = refl; trailer-at-32 = refl; exchange-cipher = refl; exchange-tag = refl }
