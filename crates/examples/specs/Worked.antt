@@ -1,20 +1,37 @@
--- Worked examples: what the definitions give for values that can be checked with a pencil.
-use mathlib.Core.List.{[], _∷_, _++_}
+-- Worked examples: what the definitions give for values that can be checked with a pencil, or by a program of a few lines.
+use mathlib.Core.List.{List, [], _∷_, _++_}
 use mathlib.Core.Path.{_≡_}
 use Prim.Native.Nat.{ℕ, _*_}
 use lib.ListN.{replicate}
+use Rattle.mixers.specs.Bytes.{xorBytes}
 use Rattle.mixers.specs.Exchange.{exchanged}
-use Rattle.mode.specs.Padding.{trailer}
-use Rattle.mode.specs.Sealing.{cipherText, cipherTag}
+use Rattle.mixers.specs.Halves.{Halves, halves}
+use Rattle.mode.specs.Padding.{padNonce, padData, trailer}
+use Rattle.mode.specs.Sealing.{cipherText, cipherTag, sealLeaves}
+
+-- a function on states that, other than the exchange, brings each block of the chain into what follows: x'‖x becomes (x' ⊕ x)‖x'
+abbrev pub stirred : Halves → Halves
+stirred s = halves (xorBytes (s .upper) (s .lower)) (s .upper)
+
+-- C and T of the exchange under a key of sixteen bytes 0x11, with nonce, data and message empty
+abbrev pub exchangeExample : List ℕ
+exchangeExample = replicate 12 0x11 ++ (0x10 ∷ 0x11 ∷ 0x11 ∷ 0x11 ∷ replicate 16 0)
 
 pub record WorkedExamples : Type 0 where
   -- the trailer for a nonce of 8 bytes, data of 10 and a message of 51, at both block lengths
   pub trailer-at-16 : trailer 16 (8 * 8) (8 * 10) (8 * 51) ≡ 0x40 ∷ 0x50 ∷ 0 ∷ 0 ∷ 0x98 ∷ 0x01 ∷ 0 ∷ 0 ∷ 0 ∷ 0 ∷ 0 ∷ 0 ∷ 1 ∷ []
   pub trailer-at-32 : trailer 32 (8 * 8) (8 * 10) (8 * 51) ≡ 0x40 ∷ 0xa0 ∷ 0 ∷ 0 ∷ 0x30 ∷ 0x03 ∷ 0 ∷ 0 ∷ 0 ∷ 0 ∷ 0 ∷ 0 ∷ 2 ∷ []
-  -- the exchange under a key of sixteen bytes 0x11, with nonce, data and message empty
+  -- a nonce of two bytes; data of none, of two bytes and of a whole block
+  pub nonce-of-two : padNonce 16 (0x22 ∷ 0x23 ∷ []) ≡ 0x22 ∷ 0x23 ∷ replicate 14 0
+  pub data-of-none : padData 16 [] ≡ []
+  pub data-of-two : padData 16 (0x33 ∷ 0x34 ∷ []) ≡ 0x33 ∷ 0x34 ∷ 1 ∷ replicate 13 0
+  pub data-of-a-block : padData 16 (replicate 16 0x33) ≡ replicate 16 0x33 ++ (1 ∷ replicate 15 0)
+  -- the exchange
   pub exchange-cipher : cipherText exchanged 16 (replicate 16 0x11) [] [] [] ≡ replicate 12 0x11 ++ (0x10 ∷ 0x11 ∷ 0x11 ∷ 0x11 ∷ [])
   pub exchange-tag : cipherTag exchanged 16 (replicate 16 0x11) [] [] [] ≡ replicate 16 0
-
--- the fields of that record
-abbrev pub exampleCount : ℕ
-exampleCount = 4
+  pub exchange-sealed : sealLeaves exchanged 16 (replicate 16 0x11) [] [] [] (replicate 32 0) ≡ exchangeExample
+  -- two blocks of data and two of message: key 0x11, nonce 0x22, data 0x33 and message 0x44, so many times each
+  pub cipher-at-16 : cipherText stirred 16 (replicate 16 0x11) (replicate 1 0x22) (replicate 16 0x33) (replicate 4 0x44) ≡ (0x76 ∷ 0x77 ∷ 0x77 ∷ 0x77 ∷ 0x3b ∷ 0xb3 ∷ 0x33 ∷ 0x33 ∷ 0x13 ∷ []) ++ (replicate 7 0x33 ++ ((0x77 ∷ 0x55 ∷ 0x55 ∷ 0x55 ∷ 0x19 ∷ 0x91 ∷ 0x11 ∷ 0x11 ∷ 0x31 ∷ []) ++ replicate 7 0x11))
+  pub tag-at-16 : cipherTag stirred 16 (replicate 16 0x11) (replicate 1 0x22) (replicate 16 0x33) (replicate 4 0x44) ≡ (0x67 ∷ 0x44 ∷ 0x44 ∷ 0x44 ∷ 0x08 ∷ 0x80 ∷ 0x00 ∷ 0x00 ∷ 0x20 ∷ []) ++ replicate 7 0x00
+  pub cipher-at-32 : cipherText stirred 32 (replicate 32 0x11) (replicate 2 0x22) (replicate 3 0x33) (replicate 20 0x44) ≡ (0x44 ∷ 0x44 ∷ 0x66 ∷ 0x54 ∷ []) ++ (replicate 16 0x55 ++ ((0x01 ∷ 0x21 ∷ 0x11 ∷ 0x11 ∷ 0x51 ∷ 0x10 ∷ []) ++ (replicate 6 0x11 ++ ((0x75 ∷ 0x77 ∷ 0x77 ∷ 0x45 ∷ []) ++ (replicate 16 0x44 ++ ((0x10 ∷ 0x30 ∷ 0x00 ∷ 0x00 ∷ 0x40 ∷ 0x01 ∷ []) ++ replicate 6 0x00))))))
+  pub tag-at-32 : cipherTag stirred 32 (replicate 32 0x11) (replicate 2 0x22) (replicate 3 0x33) (replicate 20 0x44) ≡ (0x66 ∷ 0x66 ∷ 0x66 ∷ 0x54 ∷ []) ++ (replicate 16 0x55 ++ ((0x01 ∷ 0x21 ∷ 0x11 ∷ 0x11 ∷ 0x51 ∷ 0x10 ∷ []) ++ replicate 6 0x11))

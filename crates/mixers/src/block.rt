@@ -1,4 +1,4 @@
-// A block of `B` bytes. Byte i of a block is bits 8 i to 8 i + 7 of its number.
+// A block of `B` bytes. Where it is read as a number, byte i is bits 8 i to 8 i + 7.
 ghost use mathlib.Core.List.{_++_};
 ghost use mathlib.Core.Path.{_≡_};
 ghost use Prim.Native.Nat.{_≤_};

@@ -8,7 +8,7 @@ use crate::state::State;
 // A mixer's meaning is its block length `B`, its mark byte and one fixed function on states. Whatever is built on
 // mixers is proved from these three and their laws, so it holds of every mixer.
 pub trait Mixer<const B: usize> {
-    // the mark byte, by which a header names the mixer
+    // the mark byte, by which what is sealed names its mixer
     ghost markByte: { Self → ℕ };
 
     // the function on states

@@ -13,14 +13,14 @@ use Rattle.std.proofs.shelf.Lists.{take-at, drop-at, take-append-le}
 use Rattle.std.proofs.shelf.Ways.{tells}
 use Rattle.mixers.specs.Bytes.{over}
 use Rattle.mixers.specs.Halves.{Halves, Lawful}
-use Rattle.mode.specs.Laws.{Admitted, SealedAs, OnlySealed}
+use Rattle.mode.specs.Laws.{Admitted, SealedAs, OpensSealed}
 use Rattle.mode.specs.Limits.{dataMost}
-use Rattle.mode.specs.Opening.{openedBlocks, openedTag, judged, opens, openCheck, messageAnswer, messageText, answered, leftIn}
+use Rattle.mode.specs.Opening.{openedBlocks, openedTag, judged, opens, openCheck, openChecked, messageAnswer, messageText, answered, leftIn, openAnswer, openLeaves}
 use Rattle.mode.specs.Padding.{padMessage}
 use Rattle.mode.specs.Sealing.{dataState, dataPrev, tagAt}
 use Rattle.mode.specs.Steps.{openStep, runOut, runState, runPrev}
 use Rattle.mode.specs.declared.fault.Fault.{Fault}
-use Rattle.mode.proofs.Faith.{gives-back, only-sealed}
+use Rattle.mode.proofs.Faith.{length-opened, sealed-opens, only-sealed}
 use Rattle.mode.proofs.Judged.{judged-some}
 use Rattle.mode.proofs.Pads.{length-padMessage, blocks-hold}
 use Rattle.mode.proofs.Splits.{fronts}
@@ -58,7 +58,6 @@ answer-ok (Some M) n e = (M, (refl, cc))
 pub record Blocks (f : Halves → Halves) (B : ℕ) (K N A C tag o o₂ : List ℕ) : Type 0 where
   pub tag-is : tag ≡ openedTag f B K N A C
   pub text-is : o₂ ≡ over (openedBlocks f B K N A C) o
-  pub size-is : length (openedBlocks f B K N A C) ≡ length C
 
 pub opened-in-place : (f : Halves → Halves) (B : ℕ) (K N A C : List ℕ) (s st : Halves) (p pr tag o o₁ o₂ : List ℕ)
     → s ≡ dataState f B K N A → p ≡ dataPrev f B K N A
@@ -85,14 +84,42 @@ opened-in-place f B K N A C s st p pr tag o o₁ o₂ es ep e₁ e₂ l₂ est e
     record {
       tag-is = et ∙ ap (λ x. tagAt f K x pr) stIs ∙ ap (tagAt f K (runState g B k s₀ p₀ C)) prIs;
       text-is = second ∙ ap (λ x. P ++ drop x o) (sym lP);
-      size-is = lP;
     }
 
--- `tag` is the tag that C should have, ts the text under judgement
-module _ (f : Halves → Halves) (B mark : ℕ) (law : Lawful B mark f) (K N A C T tag o o₂ ts : List ℕ) (room : ℕ)
-    (blocks : Blocks f B K N A C tag o o₂) (text : ts ≡ take (length C) o₂) (lengths : Passed B (length K) (length N) (length A) (length C) (length T) room) where
+-- whatever sealing gives is accepted, by the answer's definition
+pub all-open : (f : Halves → Halves) (B mark : ℕ) → Lawful B mark f → (K N A C T xs : List ℕ) (r : Result ℕ Fault) → r ≡ openAnswer f B K N A C T xs
+    → Admitted B K N A → length C ≤ length xs → (M : List ℕ) → SealedAs f B K N A C T M → r ≡ Ok (length M)
+all-open f B mark law K N A C T xs r is admitted room M s = is ∙ sealed-opens f B mark law K N A admitted C T M s xs room .0
+
+-- the answer is r, and the buffer, which held o, ends as `end`
+pub record Ends (f : Halves → Halves) (B : ℕ) (K N A C T o : List ℕ) (r : Result ℕ Fault) (end : List ℕ) : Type 0 where
+  pub answer : r ≡ openAnswer f B K N A C T o
+  pub buffer : end ≡ openLeaves f B K N A C T o
+  pub law-holds : OpensSealed f B K N A C T o r end
+
+-- refused from the lengths alone
+pub at-once : (f : Halves → Halves) (B mark : ℕ) → Lawful B mark f → (K N A C T o : List ℕ) (x : Fault) (r : Result ℕ Fault)
+    → Err x ≡ openChecked B K N A C T o → r ≡ Err x → Ends f B K N A C T o r o
+at-once f B mark law K N A C T o x r e er =
+    let m = opens f B K N A C T in
+    let answer-is : r ≡ openAnswer f B K N A C T o = er ∙ ap (λ k. answered k m) e in
+    record {
+      answer = answer-is;
+      buffer = ap (λ k. leftIn k (length C) m o) e;
+      law-holds = record { only = rw er tt; all = all-open f B mark law K N A C T o r answer-is };
+    }
+
+-- `tag` is the tag that C should have, and ts the text that is judged
+module _ (f : Halves → Halves) (B mark : ℕ) (law : Lawful B mark f) (K N A C T tag o o₂ ts : List ℕ) (u : Unit {0})
+    (blocks : Blocks f B K N A C tag o o₂) (text : ts ≡ take (length C) o₂) (ok : Ok u ≡ openChecked B K N A C T o) where
+  lengths : Passed B (length K) (length N) (length A) (length C) (length T) (length o)
+  lengths = passed B (length K) (length N) (length A) (length C) (length T) (length o) u ok
+
   admitted : Admitted B K N A
   admitted = record { key = lengths .key; nonce = lengths .nonce; «data» = lengths .«data» }
+
+  size-is : length (openedBlocks f B K N A C) ≡ length C
+  size-is = length-opened f B mark law K N A admitted C
 
   full : 0 < B
   full = some B (law .width)
@@ -106,38 +133,30 @@ module _ (f : Halves → Halves) (B mark : ℕ) (law : Lawful B mark f) (K N A C
   rest : drop (length C) o₂ ≡ drop (length C) o
   rest =
       let P = openedBlocks f B K N A C in
-      ap (drop (length C)) (blocks .text-is) ∙ drop-at P (drop (length P) o) (length C) (blocks .size-is) ∙ ap (λ k. drop k o) (blocks .size-is)
+      ap (drop (length C)) (blocks .text-is) ∙ drop-at P (drop (length P) o) (length C) size-is ∙ ap (λ k. drop k o) size-is
 
   judged-opens : judged B (8 * length N) (8 * length A) tag T ts ≡ opens f B K N A C T
   unfolding opens
   judged-opens =
       let P = openedBlocks f B K N A C in
-      let is : ts ≡ P = text ∙ ap (take (length C)) (blocks .text-is) ∙ take-at P (drop (length P) o) (length C) (blocks .size-is) in
+      let is : ts ≡ P = text ∙ ap (take (length C)) (blocks .text-is) ∙ take-at P (drop (length P) o) (length C) size-is in
       ap (λ x. judged B (8 * length N) (8 * length A) x T ts) (blocks .tag-is) ∙ ap (judged B (8 * length N) (8 * length A) (openedTag f B K N A C) T) is
 
-  -- the answer is r and the buffer ends as `end`, where the lengths passed the check
-  pub record Ends (check : Result (Unit {0}) Fault) (r : Result ℕ Fault) (end : List ℕ) : Type 0 where
-    pub answer : r ≡ answered check (opens f B K N A C T)
-    pub buffer : end ≡ leftIn check (length C) (opens f B K N A C T) o
-    pub law-holds : OnlySealed f B K N A C T r end
-
-  pub at-refusal : (check : Result (Unit {0}) Fault) (u : Unit {0}) (x : Fault) (r : Result ℕ Fault) (end : List ℕ)
-      → Ok u ≡ check → messageAnswer (judged B (8 * length N) (8 * length A) tag T ts) ≡ Err x → r ≡ Err x → end ≡ replicate (length C) 0 ++ drop (length C) o₂
-      → Ends check r end
-  at-refusal check u x r end ok e er is =
+  pub at-refusal : (x : Fault) (r : Result ℕ Fault) (end : List ℕ)
+      → messageAnswer (judged B (8 * length N) (8 * length A) tag T ts) ≡ Err x → r ≡ Err x → end ≡ replicate (length C) 0 ++ drop (length C) o₂
+      → Ends f B K N A C T o r end
+  at-refusal x r end e er is =
       let m = opens f B K N A C T in
       let zs = replicate (length C) 0 in
       let e′ : messageAnswer m ≡ Err x = ap messageAnswer (sym judged-opens) ∙ e in
       let none : m ≡ None = answer-err m x e′ in
       let lz : length zs ≡ length C = length-replicate (length C) 0 in
       let left : zs ++ drop (length C) o₂ ≡ over zs o = ap (λ y. zs ++ y) rest ∙ ap (λ k. zs ++ drop k o) (sym lz) in
+      let answer-is : r ≡ openAnswer f B K N A C T o = er ∙ sym e′ ∙ ap (λ k. answered k m) ok in
       record {
-        answer = er ∙ sym e′ ∙ ap (λ k. answered k m) ok;
+        answer = answer-is;
         buffer = is ∙ left ∙ ap (λ y. over (messageText (length C) y) o) (sym none) ∙ ap (λ k. leftIn k (length C) m o) ok;
-        law-holds = record {
-          accepted = rw er tt;
-          refused = λ _ M s. let z : None ≡ Some M = sym none ∙ gives-back f B mark law K N A admitted C T M s in let y : _≡_ {A = ℕ} 0 1 = cc in omega arith;
-        };
+        law-holds = record { only = rw er tt; all = all-open f B mark law K N A C T o r answer-is };
       }
 
   module _ (len : ℕ) (e : messageAnswer (judged B (8 * length N) (8 * length A) tag T ts) ≡ Ok len) where
@@ -150,7 +169,7 @@ module _ (f : Halves → Halves) (B mark : ℕ) (law : Lawful B mark f) (K N A C
 
     pub within : len ≤ length C
     within =
-        let size = sym (length-padMessage B (8 * length N) (8 * length A) (found .0) full) ∙ ap length padded ∙ blocks .size-is in
+        let size = sym (length-padMessage B (8 * length N) (8 * length A) (found .0) full) ∙ ap length padded ∙ size-is in
         omega (arith, found .1 .1, size, blocks-hold B (length (found .0) + 13) full .0)
 
     -- the message stands at the front
@@ -158,12 +177,12 @@ module _ (f : Halves → Halves) (B mark : ℕ) (law : Lawful B mark f) (K N A C
     front =
         let P = openedBlocks f B K N A C in
         ap (take len) (blocks .text-is)
-        ∙ take-append-le len P (drop (length P) o) (omega (arith, within, blocks .size-is))
+        ∙ take-append-le len P (drop (length P) o) (omega (arith, within, size-is))
         ∙ ap (λ k. take k P) (sym (found .1 .1))
         ∙ message-is B (8 * length N) (8 * length A) full short few-data (found .0) P padded
 
-    pub at-message : (check : Result (Unit {0}) Fault) (u : Unit {0}) (end : List ℕ) → Ok u ≡ check → end ≡ take len o₂ ++ (replicate (length C - len) 0 ++ drop (length C) o₂) → Ends check (Ok len) end
-    at-message check u end ok is =
+    pub at-message : (end : List ℕ) → end ≡ take len o₂ ++ (replicate (length C - len) 0 ++ drop (length C) o₂) → Ends f B K N A C T o (Ok len) end
+    at-message end is =
         let m = opens f B K N A C T in
         let M = found .0 in
         let lM : length M ≡ len = found .1 .1 in
@@ -178,11 +197,12 @@ module _ (f : Halves → Halves) (B mark : ℕ) (law : Lawful B mark f) (K N A C
         ∙ ap (λ k. (M ++ zs) ++ drop k o) (sym long) in
         let whole : length C / B * B ≡ length C = omega (arith, mod-add-div' (length C) B, lengths .whole) in
         let text-is : take len end ≡ M = ap (take len) (left ∙ append-assoc M zs (drop (length (M ++ zs)) o)) ∙ take-at M (zs ++ drop (length (M ++ zs)) o) len lM in
+        let answer-is : Ok len ≡ openAnswer f B K N A C T o = sym (ap messageAnswer (found .1 .0) ∙ ap Ok lM) ∙ ap (λ k. answered k m) ok in
         record {
-          answer = sym (ap messageAnswer (found .1 .0) ∙ ap Ok lM) ∙ ap (λ k. answered k m) ok;
+          answer = answer-is;
           buffer = left ∙ ap (λ y. over (messageText (length C) y) o) (sym (found .1 .0)) ∙ ap (λ k. leftIn k (length C) m o) ok;
           law-holds = record {
-            accepted = subst (SealedAs f B K N A C T) (sym text-is) (only-sealed f B mark law K N A admitted C T M whole (found .1 .0));
-            refused = λ z M _. let y : _≡_ {A = ℕ} 0 1 = cc in omega arith;
+            only = subst (SealedAs f B K N A C T) (sym text-is) (only-sealed f B mark law K N A admitted C T M whole (found .1 .0));
+            all = all-open f B mark law K N A C T o (Ok len) answer-is;
           };
         }

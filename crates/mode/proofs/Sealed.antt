@@ -18,9 +18,20 @@ use Rattle.mode.specs.Steps.{sealStep, runOut, runState, runPrev}
 use Rattle.mode.proofs.Pads.{length-padMessage}
 use Rattle.mode.proofs.Splits.{fronts}
 
--- what an answer that is no refusal says of the lengths
-pub sealable : (B : ℕ) (K N A M xs : List ℕ) (lengths : ℕ × ℕ) → Ok lengths ≡ sealAnswer B K N A M xs → Admitted B K N A × (length M ≤ messageMost)
-sealable B K N A M xs lengths e = (record { key = grind (arith, tells); nonce = grind (arith, tells); «data» = grind (arith, tells) }, grind (arith, tells))
+-- what an answer that is no refusal says
+pub record Sealable (B : ℕ) (K N A M : List ℕ) (lengths : ℕ × ℕ) : Type 0 where
+  pub admitted : Admitted B K N A
+  pub limit : length M ≤ messageMost
+  pub cipher : lengths .0 ≡ cipherLength B (length M)
+  pub both : lengths .1 ≡ cipherLength B (length M) + B
+
+pub sealable : (B : ℕ) (K N A M xs : List ℕ) (c all : ℕ) → Ok (c, all) ≡ sealAnswer B K N A M xs → Sealable B K N A M (c, all)
+sealable B K N A M xs c all e = record {
+  admitted = record { key = grind (arith, tells); nonce = grind (arith, tells); «data» = grind (arith, tells) };
+  limit = grind (arith, tells);
+  cipher = grind (arith, tells);
+  both = grind (arith, tells);
+}
 
 -- s and p are the state and the last block after the data; o is what the buffer held, and o₁, o₂ and o₃ what it holds after each write
 module _ (f : Halves → Halves) (B : ℕ) (K N A M : List ℕ) (some : 0 < B) where

@@ -15,6 +15,6 @@ codeOf CipherLength = 5
 codeOf BufferTooShort = 6
 codeOf NotAuthentic = 7
 
--- refused by e unless the test holds; else what comes after it
+-- `after` where the test holds, and else the refusal e
 abbrev pub unless : {X : Type 0} → Bool → Fault → Result X Fault → Result X Fault
 unless test e after = cond test after (Err e)

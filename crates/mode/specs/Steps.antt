@@ -7,7 +7,7 @@ use Rattle.mixers.specs.Halves.{Halves, halves}
 use Rattle.mode.specs.declared.way.Way.{Way}
 use Rattle.mode.specs.declared.way.Way.the-variants.{Seal, Open}
 
--- What one step gives: the next state, the message block of this step, and the block that is written in place of the one that stood there.
+-- What one step gives: the next state, the block m of this step, and the block that is written in place of the one that stood there. A block m is one of padded data or message.
 pub record Turn : Type 0 where
   pub state : Halves
   pub prev : List ℕ
@@ -16,7 +16,7 @@ pub record Turn : Type 0 where
 abbrev pub turn : Halves → List ℕ → List ℕ → Turn
 turn s p b = record { state = s; prev = p; block = b }
 
--- a step, from the state, the message block of the step before, and the block that stands there
+-- a step, from the state, the block m of the step before (m₀ at the first), and the block that stands there
 abbrev pub Step : Type 0
 Step = Halves → List ℕ → List ℕ → Turn
 
@@ -47,7 +47,7 @@ abbrev pub runState : Step → ℕ → ℕ → Halves → List ℕ → List ℕ 
 runState g n zero s prev xs = s
 runState g n (suc k) s prev xs = runState g n k (g s prev (take n xs) .state) (g s prev (take n xs) .prev) (drop n xs)
 
--- the last message block, or the one before where there is none
+-- the last block m, or the one before them where k is 0
 abbrev pub runPrev : Step → ℕ → ℕ → Halves → List ℕ → List ℕ → List ℕ
 runPrev g n zero s prev xs = prev
 runPrev g n (suc k) s prev xs = runPrev g n k (g s prev (take n xs) .state) (g s prev (take n xs) .prev) (drop n xs)

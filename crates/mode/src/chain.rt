@@ -14,7 +14,7 @@ use mixers::Block;
 use mixers::Mixer;
 use mixers::State;
 
-// Where the chain stands: the state x'‖x, and the last block of data or message.
+// Where the chain stands: the state x'‖x, and the block before the next one, which is the nonce's before any other.
 #[derive(Clone, Copy)]
 pub(crate) struct Chain<const B: usize> {
     pub(crate) state: State<B>,
@@ -22,7 +22,7 @@ pub(crate) struct Chain<const B: usize> {
 }
 
 impl<const B: usize> Chain<B> {
-    // Mixes the state, and adds the last block to its lower block.
+    // Mixes the state; its lower block is then ⊕ the block before.
     fn advance<M: Mixer<B>>(&mut self, mixer: &M)
         ensures state { λ _. ⌜ view (now (self .exit) .state) ≡ advanced (mixing (now (mixer .entry))) (view (now (self .entry) .state)) (now (self .entry) .prev .bytes) ⌝ }
         ensures prev { λ _. ⌜ now (self .exit) .prev ≡ now (self .entry) .prev ⌝ }
@@ -41,7 +41,7 @@ impl<const B: usize> Chain<B> {
         self.prev = *block;
     }
 
-    // Takes in a block of ciphertext; its message block is then the last block.
+    // Takes in a block of ciphertext; its message block is then the block before.
     fn recover<M: Mixer<B>>(&mut self, mixer: &M, block: &Block<B>)
         ensures state { λ _. ⌜ view (now (self .exit) .state) ≡ openStep (mixing (now (mixer .entry))) (view (now (self .entry) .state)) (now (self .entry) .prev .bytes) (now (block .entry) .bytes) .state ⌝ }
         ensures prev { λ _. ⌜ now (self .exit) .prev .bytes ≡ openStep (mixing (now (mixer .entry))) (view (now (self .entry) .state)) (now (self .entry) .prev .bytes) (now (block .entry) .bytes) .prev ⌝ }

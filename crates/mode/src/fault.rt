@@ -2,15 +2,15 @@
 ghost use mathlib.Core.Path.{_≡_};
 ghost use Rattle.mode.specs.Faults.{codeOf};
 
-#[derive(Clone, Copy, PartialEq, Eq, Debug)]
+#[derive(Clone, Copy, Debug)]
 pub enum Fault {
     // the key is not one block long
     KeyLength,
     // the nonce is longer than one block
     NonceTooLong,
-    // the associated data is longer than `DATA_MOST`
+    // the associated data is longer than 4,096 bytes
     DataTooLong,
-    // the message is longer than `MESSAGE_MOST`
+    // the message is longer than 65,536 bytes
     MessageTooLong,
     // ciphertext or tag has a length that no sealing gives
     CipherLength,

@@ -23,7 +23,7 @@ impl Drop for WipeGuard<'_> {
 }
 
 impl WipeGuard<'_> {
-    // What was written.
+    // The part that it would wipe.
     pub(crate) fn text(&self) -> &[u8]
         requires { ⌜ now self .written ≤ length (now (now self .buf)) ⌝ }
         ensures { λ r. ⌜ now r ≡ take (now (self .entry) .written) (now (now (self .entry) .buf)) ⌝ }

@@ -1,4 +1,4 @@
-// Sealing and opening byte strings under any mixer: the mode JHAE.
+// Sealing and opening byte strings under any mixer, with associated data: the mode JHAE. docs/CIPHER.md has it in words.
 mod bytes;
 mod chain;
 mod fault;
@@ -11,9 +11,5 @@ mod way;
 
 pub use fault::Fault;
 pub use fault::FaultDebug;
-pub use fault::FaultEq;
-pub use fault::FaultPartialEq;
-pub use limits::DATA_MOST;
-pub use limits::MESSAGE_MOST;
 pub use opening::open;
 pub use sealing::seal;

@@ -4,7 +4,7 @@ ghost use mathlib.Core.Path.{_≡_};
 ghost use Prim.Native.Nat.{_*_, _%_, _≤_};
 ghost use lib.ListN.{length};
 ghost use Rattle.mixers.specs.Bytes.{over};
-ghost use Rattle.mode.specs.Laws.{Admitted, OnlySealed};
+ghost use Rattle.mode.specs.Laws.{Admitted, OpensSealed};
 ghost use Rattle.mode.specs.Limits.{dataMost};
 ghost use Rattle.mode.specs.Opening.{openedBlocks, openedTag, judged, messageAnswer, openCheck, openAnswer, openLeaves};
 use crate::bytes::put;
@@ -62,7 +62,6 @@ fn write_opened<const B: usize, M: Mixer<B>>(
     requires { ⌜ Admitted B (now key) (now nonce) (now ad) ⌝ ∗ ⌜ length (now cipher) ≤ length (now text) ⌝ }
     ensures tag { λ r. ⌜ r .bytes ≡ openedTag (mixing (now (mixer .entry))) B (now (key .entry)) (now (nonce .entry)) (now (ad .entry)) (now (cipher .entry)) ⌝ }
     ensures text { λ _. ⌜ now (text .exit) ≡ over (openedBlocks (mixing (now (mixer .entry))) B (now (key .entry)) (now (nonce .entry)) (now (ad .entry)) (now (cipher .entry))) (now (text .entry)) ⌝ }
-    ensures size { λ _. ⌜ length (openedBlocks (mixing (now (mixer .entry))) B (now (key .entry)) (now (nonce .entry)) (now (ad .entry)) (now (cipher .entry))) ≡ length (now (cipher .entry)) ⌝ }
 {
     let mut chain = Chain::begin(mixer, key, nonce, ad);
     put(text, 0, cipher);
@@ -103,7 +102,7 @@ pub fn open<const B: usize, M: Mixer<B>>(
 ) -> Result<usize, Fault>
     ensures answer { λ r. ⌜ r ≡ openAnswer (mixing (now (mixer .entry))) B (now (key .entry)) (now (nonce .entry)) (now (ad .entry)) (now (cipher .entry)) (now (tag .entry)) (now (text .entry)) ⌝ }
     ensures buffer { λ _. ⌜ now (text .exit) ≡ openLeaves (mixing (now (mixer .entry))) B (now (key .entry)) (now (nonce .entry)) (now (ad .entry)) (now (cipher .entry)) (now (tag .entry)) (now (text .entry)) ⌝ }
-    ensures origin { λ r. ⌜ OnlySealed (mixing (now (mixer .entry))) B (now (key .entry)) (now (nonce .entry)) (now (ad .entry)) (now (cipher .entry)) (now (tag .entry)) r (now (text .exit)) ⌝ }
+    ensures exactly { λ r. ⌜ OpensSealed (mixing (now (mixer .entry))) B (now (key .entry)) (now (nonce .entry)) (now (ad .entry)) (now (cipher .entry)) (now (tag .entry)) (now (text .entry)) r (now (text .exit)) ⌝ }
 {
     let written = cipher.len();
     check_lengths::<B>(

@@ -5,7 +5,7 @@ ghost use mathlib.Core.Path.{_≡_};
 ghost use Prim.Native.Nat.{_+_, _-_, _*_, _<_, _≤_};
 ghost use lib.ListN.{length, getD, drop, replicate};
 ghost use Rattle.mixers.specs.Bytes.{lowBytes};
-ghost use Rattle.mode.specs.Limits.{dataMost, messageMost};
+ghost use Rattle.mode.specs.Limits.{dataMost, messageMost, trailerLength};
 ghost use Rattle.mode.specs.Opening.{messageAnswer};
 ghost use Rattle.mode.specs.Padding.{trailerNumber, trailer as trailerBytes, padMessage, unpadded};
 ghost use Rattle.mode.specs.Sealing.{cipherLength};
@@ -17,7 +17,7 @@ use crate::limits::MESSAGE_MOST;
 use crate::limits::TRAILER;
 use mixers::Block;
 
-// The last block of data, which begins with `rest`.
+// The last block of padded data: `rest`, the byte 1, and zeros.
 pub(crate) fn pad_rest<const B: usize>(rest: &[u8]) -> Block<B>
     requires { ⌜ length (now rest) < B ⌝ }
     ensures { λ r. ⌜ r .bytes ≡ now (rest .entry) ++ (1 ∷ replicate (B - (length (now (rest .entry)) + 1)) 0) ⌝ }
@@ -35,9 +35,9 @@ pub(crate) fn cipher_len<const B: usize>(message: usize) -> usize
     (message + TRAILER + (B - 1)) / B * B
 }
 
-// The low bytes of a number, the lowest first.
+// The 13 low bytes of a number, the lowest first.
 fn low_bytes(mut number: u128) -> [u8; TRAILER]
-    ensures { λ r. ⌜ r ≡ lowBytes 13 number ⌝ }
+    ensures { λ r. ⌜ r ≡ lowBytes trailerLength number ⌝ }
 {
     let mut bytes = [0; TRAILER];
     for i in 0..TRAILER {
@@ -57,6 +57,7 @@ fn trailer_number<const B: usize>(nonce: usize, ad: usize, message: usize) -> u1
     nonce as u128 * 8 + unit * high
 }
 
+// The trailer, from the same lengths.
 fn trailer<const B: usize>(nonce: usize, ad: usize, message: usize) -> [u8; TRAILER]
     requires { ⌜ nonce ≤ 32 ⌝ ∗ ⌜ ad ≤ dataMost ⌝ ∗ ⌜ message ≤ messageMost ⌝ }
     ensures { λ r. ⌜ r ≡ trailerBytes B (8 * nonce) (8 * ad) (8 * message) ⌝ }
@@ -75,7 +76,7 @@ pub(crate) fn pad_message<const B: usize>(nonce: usize, ad: usize, message: &[u8
     zero(out, end, cipher_len::<B>(message.len()));
 }
 
-// The end of what is not zero.
+// The place behind the last byte that is not zero, or 0 where all are.
 fn reach(text: &[u8]) -> usize
     ensures within { λ r. ⌜ r ≤ length (now (text .entry)) ⌝ }
     ensures zeros { λ r. ⌜ drop r (now (text .entry)) ≡ replicate (length (now (text .entry)) - r) 0 ⌝ }

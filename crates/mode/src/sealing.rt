@@ -81,7 +81,7 @@ pub fn seal<const B: usize, M: Mixer<B>>(
 ) -> Result<(usize, usize), Fault>
     ensures answer { λ r. ⌜ r ≡ sealAnswer B (now (key .entry)) (now (nonce .entry)) (now (ad .entry)) (now (message .entry)) (now (out .entry)) ⌝ }
     ensures buffer { λ _. ⌜ now (out .exit) ≡ sealLeaves (mixing (now (mixer .entry))) B (now (key .entry)) (now (nonce .entry)) (now (ad .entry)) (now (message .entry)) (now (out .entry)) ⌝ }
-    ensures again { λ r. ⌜ made r (λ _. OpensAgain (mixing (now (mixer .entry))) B (now (key .entry)) (now (nonce .entry)) (now (ad .entry)) (now (message .entry))) ⌝ }
+    ensures again { λ r. ⌜ made r (OpensAgain (mixing (now (mixer .entry))) B (now (key .entry)) (now (nonce .entry)) (now (ad .entry)) (now (message .entry))) ⌝ }
 {
     let lengths = seal_lengths::<B>(key.len(), nonce.len(), ad.len(), message.len(), out.len())?;
     write_sealed(mixer, key, nonce, ad, message, out);

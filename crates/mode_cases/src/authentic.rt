@@ -2,8 +2,10 @@
 use crate::parts::UNTOUCHED;
 use crate::parts::all_are;
 use crate::parts::front;
+use mixers::Block;
 use mixers::Exchange;
 use mixers::ExchangeMixer;
+use mixers::State;
 use mode::FaultDebug;
 use mode::open;
 use mode::seal;
@@ -43,6 +45,19 @@ fn refused(key: &[u8], nonce: &[u8], ad: &[u8], cipher: &[u8], tag: &[u8]) -> Re
     check_eq(code, 7)?;
     check(all_are(0, &text, 0, cipher.len()))?;
     check(all_are(UNTOUCHED, &text, cipher.len(), 80))
+}
+
+#[test]
+fn the_exchange_swaps_the_blocks_of_a_state() -> Result<(), Fail> {
+    check_eq(Exchange.block_len(), 16)?;
+    check_eq(Exchange.mark(), 3)?;
+    let mut state = State {
+        upper: Block::of(&[1, 2]),
+        lower: Block::of(&[3; 20]),
+    };
+    Exchange.mix(&mut state);
+    check(state.upper.bytes == [3; 16])?;
+    check(state.lower.bytes == [1, 2, 0, 0, 0, 0, 0, 0, 0, 0, 0, 0, 0, 0, 0, 0])
 }
 
 #[test]

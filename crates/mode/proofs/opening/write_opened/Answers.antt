@@ -33,4 +33,4 @@ returns g c =
     let b = opened-in-place (g .M·Mixer .mixing (c .args .mixer .now)) (g .B) (c .args .key .now) (c .args .nonce .now) (c .args .ad .now) (c .args .cipher .now)
     (view (c .begin-chain .result .state)) (view (c .turn-all .last .self .state)) (c .begin-chain .result .prev .bytes) (c .turn-all .last .self .prev .bytes) (c .tag .result .bytes) (c .args .text .now) (c .put .last .out) (c .turn-all .last .text)
     (c .begin-chain .ensures .state) (c .begin-chain .ensures .prev) (c .put .ensures) (c .turn-all .ensures .out) (c .turn-all .kept .text) (c .turn-all .ensures .state) (c .turn-all .ensures .prev) (c .tag .ensures) in
-    record { tag = b .tag-is; text = b .text-is; size = b .size-is }
+    record { tag = b .tag-is; text = b .text-is }

@@ -17,10 +17,11 @@ returns g c =
     let A = c .args .ad .now in
     let M = c .args .message .now in
     let xs = c .args .out .now in
+    let l = c .in-Continue-lengths .lengths in
     let ok = c .in-Continue-lengths .ensures tt in
-    let able = sealable (g .B) K N A M xs (c .in-Continue-lengths .lengths) ok in
+    let able = sealable (g .B) K N A M xs (l .0) (l .1) ok in
     record {
       answer = ok;
       buffer = c .write-sealed .ensures ∙ ap (λ r. written r (cipherText f (g .B) K N A M ++ cipherTag f (g .B) K N A M) xs) ok;
-      again = opens-again f (g .B) (g .M·Mixer .markByte m) (g .M·Mixer .laws m) K N A (able .0) M (able .1);
+      again = opens-again f (g .B) (g .M·Mixer .markByte m) (g .M·Mixer .laws m) K N A (able .admitted) M l (able .limit) (able .cipher) (able .both);
     }
