@@ -20,17 +20,17 @@ turn s p b = record { state = s; prev = p; block = b }
 abbrev pub Step : Type 0
 Step = Halves → List ℕ → List ℕ → Turn
 
--- y'‖(y ⊕ prev), with y'‖y = f (x'‖x)
+-- what both directions do first: y'‖(y ⊕ prev), with y'‖y = f (x'‖x)
 abbrev pub advanced : (Halves → Halves) → Halves → List ℕ → Halves
 advanced f s prev = halves (f s .upper) (xorBytes (f s .lower) prev)
 
 -- the ciphertext block is y' ⊕ m, and the next state (y' ⊕ m)‖(y ⊕ prev)
 abbrev pub sealStep : (Halves → Halves) → Step
-sealStep f s prev m = turn (halves (xorBytes (f s .upper) m) (xorBytes (f s .lower) prev)) m (xorBytes (f s .upper) m)
+sealStep f s prev m = turn (halves (xorBytes (advanced f s prev .upper) m) (advanced f s prev .lower)) m (xorBytes (advanced f s prev .upper) m)
 
 -- the message block is y' ⊕ c, and the next state c‖(y ⊕ prev)
 abbrev pub openStep : (Halves → Halves) → Step
-openStep f s prev c = turn (halves c (xorBytes (f s .lower) prev)) (xorBytes (f s .upper) c) (xorBytes (f s .upper) c)
+openStep f s prev c = turn (halves c (advanced f s prev .lower)) (xorBytes (advanced f s prev .upper) c) (xorBytes (advanced f s prev .upper) c)
 
 abbrev pub stepOf : Way → (Halves → Halves) → Step
 stepOf Seal f = sealStep f

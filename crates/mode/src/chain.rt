@@ -22,7 +22,7 @@ pub(crate) struct Chain<const B: usize> {
 }
 
 impl<const B: usize> Chain<B> {
-    // Mixes the state; its lower block is then ⊕ the block before.
+    // Mixes the state, and takes ⊕ of its lower block with the block before.
     fn advance<M: Mixer<B>>(&mut self, mixer: &M)
         ensures state { λ _. ⌜ view (now (self .exit) .state) ≡ advanced (mixing (now (mixer .entry))) (view (now (self .entry) .state)) (now (self .entry) .prev .bytes) ⌝ }
         ensures prev { λ _. ⌜ now (self .exit) .prev ≡ now (self .entry) .prev ⌝ }

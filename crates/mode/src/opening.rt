@@ -70,7 +70,7 @@ fn write_opened<const B: usize, M: Mixer<B>>(
 }
 
 // The length of the message in the opened blocks `text`, if the tag is right and they are its padding. The tag comes
-// first, so that no time tells of a text that is not authentic.
+// first: the padding of a text that is not authentic is never read.
 fn judge<const B: usize>(
     expected: &Block<B>,
     tag: &[u8],
