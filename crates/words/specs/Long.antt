@@ -1,0 +1,35 @@
+-- The word of 128 bits in two halves, and the number that it stands for.
+use Prim.Native.Nat.{ℕ, _+_, _*_, _/_, _%_, _^_}
+use lib.Bits.{bitXor, xor-assoc, xor-comm, xor-zero-r, xor-self}
+use Rattle.words.specs.declared.long.Long.{Long}
+use Rattle.words.specs.Laws.{XorLaws}
+use Rattle.words.specs.Linear.{wideFirst}
+
+abbrev pub long : ℕ → ℕ → Long
+long h l = record { hi = h; lo = l }
+
+-- the number of a word, and the word of a number below 2 ^ 128
+abbrev pub number : Long → ℕ
+number x = x .hi * 2 ^ 64 + x .lo
+
+abbrev pub longOf : ℕ → Long
+longOf n = long (n / 2 ^ 64) (n % 2 ^ 64)
+
+abbrev pub nothing : Long
+nothing = long 0 0
+
+abbrev pub xorLong : Long → Long → Long
+xorLong x y = long (bitXor (x .hi) (y .hi)) (bitXor (x .lo) (y .lo))
+
+-- L of the number
+abbrev pub linearLong : Long → Long
+linearLong x = longOf (wideFirst (number x))
+
+-- The laws of exclusive or hold. The proof stands here since the code's ghost member cites it.
+pub long-laws : XorLaws nothing xorLong
+long-laws = record {
+  assoc = λ x y z. simp xor-assoc;
+  comm = λ x y. rw (xor-comm (x .hi) (y .hi), xor-comm (x .lo) (y .lo));
+  neutral = λ x. simp xor-zero-r;
+  cancels = λ x. simp xor-self;
+}
