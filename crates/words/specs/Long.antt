@@ -1,7 +1,9 @@
 -- The word of 128 bits in two halves, and the number that it stands for.
+use mathlib.Core.List.{List, _++_}
 use Prim.Native.Nat.{ℕ, _+_, _*_, _/_, _%_, _^_}
 use lib.Bits.{bitXor, xor-assoc, xor-comm, xor-zero-r, xor-self}
 use Rattle.words.specs.declared.long.Long.{Long}
+use Rattle.words.specs.Bytes.{lowBytes}
 use Rattle.words.specs.Laws.{XorLaws}
 use Rattle.words.specs.Linear.{wideFirst}
 
@@ -14,6 +16,10 @@ number x = x .hi * 2 ^ 64 + x .lo
 
 abbrev pub longOf : ℕ → Long
 longOf n = long (n / 2 ^ 64) (n % 2 ^ 64)
+
+-- its sixteen bytes, the lowest first
+abbrev pub longBytes : Long → List ℕ
+longBytes x = lowBytes 8 (x .lo) ++ lowBytes 8 (x .hi)
 
 abbrev pub nothing : Long
 nothing = long 0 0

@@ -1,0 +1,2 @@
+pub mod Artemia
+pub mod Lanes
