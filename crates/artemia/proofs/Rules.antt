@@ -50,7 +50,6 @@ pub of-pairs : (r : ℕ) (g : Group ℕ) → g .x0 < 2 ^ 16 → g .x1 < 2 ^ 16 �
 unfolding joined lowBytes value
 of-pairs r g h0 h1 h2 h3 e = named 8 r (joined 2 g) refl (omega arith, (omega arith, (omega arith, (omega arith, (omega arith, (omega arith, (omega arith, (omega arith, tt)))))))) (omega arith)
 
-
 abbrev each : {V W : Type 0} → (V → W) → Group V → Group W
 each f g = record { x0 = f (g .x0); x1 = f (g .x1); x2 = f (g .x2); x3 = f (g .x3) }
 

@@ -5,12 +5,12 @@ use Prim.Native.Nat.{ℕ, zero, suc, _+_, _*_}
 use native.Mathlib.Nat.{suc-mul}
 use native.Mathlib.Omega.{arith}
 use lib.Bits.{bitXor}
-use lib.ListN.{length, take, drop, length-append, length-map}
+use lib.ListN.{length, take, drop, length-append, length-map, length-take, length-drop}
 use Rattle.words.specs.Bytes.{lowBytes, Bytes}
 use Rattle.words.specs.Diffusion.{diffused}
 use Rattle.words.specs.Linear.{wideThird}
 use Rattle.words.specs.Sbox.{sboxOf}
-use Rattle.words.proofs.Bytes.{length-low, low-are-bytes, append-bytes}
+use Rattle.words.proofs.Bytes.{length-low, low-are-bytes, append-bytes, take-bytes, drop-bytes}
 use Rattle.words.proofs.Field.{sbox-byte}
 use Rattle.artemia.specs.Artemia.{Kind, substituted, parts, cut, four, two, joined, round, rounds, permuted, narrow, wide}
 
@@ -82,3 +82,15 @@ wide-keeps = record {
   sized = rounds-sized wide (length-four 1 wideThird) (four-bytes 1 wideThird) _;
   bytes = rounds-bytes wide (length-four 1 wideThird) (four-bytes 1 wideThird) _;
 }
+
+-- a state of two halves, l below u, put through such a function and cut again
+module _ (n : ℕ) {f : List ℕ → List ℕ} (keeps : Keeps (n + n) f) (l u : List ℕ) where
+  pub halves-sized : length l ≡ n → length u ≡ n → (length (drop n (f (l ++ u))) ≡ n) × (length (take n (f (l ++ u))) ≡ n)
+  halves-sized el eu =
+      let e : length (f (l ++ u)) ≡ n + n = keeps .sized (l ++ u) (simp length-append (omega arith)) in
+      (simp length-drop (omega arith), simp length-take (omega arith))
+
+  pub halves-bytes : Bytes l → Bytes u → Bytes (drop n (f (l ++ u))) × Bytes (take n (f (l ++ u)))
+  halves-bytes bl bu =
+      let t = keeps .bytes (l ++ u) (append-bytes l u bl bu) in
+      (drop-bytes n (f (l ++ u)) t, take-bytes n (f (l ++ u)) t)

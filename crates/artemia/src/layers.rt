@@ -59,7 +59,12 @@ fn substitute_half(x: u32) -> u32
     ensures { λ r. ⌜ lowBytes 4 r ≡ substituted (lowBytes 4 x) ⌝ }
 {
     let b = x.to_le_bytes();
-    u32::from_le_bytes([substitute(b[0]), substitute(b[1]), substitute(b[2]), substitute(b[3])])
+    u32::from_le_bytes([
+        substitute(b[0]),
+        substitute(b[1]),
+        substitute(b[2]),
+        substitute(b[3]),
+    ])
 }
 
 // S, the rule of four bytes, and S.
@@ -73,7 +78,12 @@ fn diffuse_bytes(x: u32) -> u32
         x2: substitute(b[2]),
         x3: substitute(b[3]),
     });
-    u32::from_le_bytes([substitute(y.x0), substitute(y.x1), substitute(y.x2), substitute(y.x3)])
+    u32::from_le_bytes([
+        substitute(y.x0),
+        substitute(y.x1),
+        substitute(y.x2),
+        substitute(y.x3),
+    ])
 }
 
 // The same at four words.

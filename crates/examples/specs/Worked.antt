@@ -3,7 +3,7 @@ use mathlib.Core.List.{List, [], _∷_, _++_}
 use mathlib.Core.Path.{_≡_}
 use Prim.Native.Nat.{ℕ, _*_}
 use lib.ListN.{replicate}
-use Rattle.mixers.specs.Bytes.{xorBytes}
+use Rattle.words.specs.Bytes.{xorBytes}
 use Rattle.mixers.specs.Exchange.{exchanged}
 use Rattle.mixers.specs.Halves.{Halves, halves}
 use Rattle.mode.specs.Padding.{padNonce, padData, trailer}

@@ -7,7 +7,7 @@ use native.Mathlib.Omega.{arith}
 use lib.ListN.{length, set, take, drop, getD, replicate}
 use Rattle.std.proofs.shelf.Lists.{drop-more, set-at, append-assoc, take-all, length-take-le, drop-replicate}
 use Rattle.std.proofs.shelf.Tests.{cases-lt}
-use Rattle.mixers.specs.Bytes.{blockOf}
+use Rattle.mixers.specs.Blocks.{blockOf}
 
 -- p is written, and y comes next
 pub put-more : (p b : List ℕ) (i y : ℕ) → length p ≡ i → i < length b → set (p ++ drop i b) i y ≡ (p ++ (y ∷ [])) ++ drop (i + 1) b

@@ -7,7 +7,7 @@ use lib.ListN.{length, getD, set, take, drop}
 use lib.Seq.{take-all, drop-set-lt}
 use lib.Bits.{bitXor, xor-assoc, xor-self, xor-zero-l}
 use Rattle.std.proofs.shelf.Lists.{take-more-set, drop-more, drop-all}
-use Rattle.mixers.specs.Bytes.{xorBytes}
+use Rattle.words.specs.Bytes.{xorBytes}
 
 -- one element more is done, and what is left gives the rest
 pub xor-more : (a b : List ℕ) (i v : ℕ) → i < length a → i < length b → v ≡ bitXor (getD a i 0) (getD b i 0)

@@ -4,7 +4,7 @@ use mathlib.Core.Logic.{_⊎_}
 use mathlib.Core.Path.{_≡_}
 use Prim.Native.Nat.{ℕ, _≤_}
 use lib.ListN.{length}
-use Rattle.mixers.specs.Bytes.{Bytes}
+use Rattle.words.specs.Bytes.{Bytes}
 
 -- the two blocks of a state: x' is the upper one and x the lower
 pub record Halves : Type 0 where

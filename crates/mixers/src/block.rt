@@ -3,7 +3,8 @@ ghost use mathlib.Core.List.{_++_};
 ghost use mathlib.Core.Path.{_≡_};
 ghost use Prim.Native.Nat.{_≤_};
 ghost use lib.ListN.{length, drop, replicate};
-ghost use Rattle.mixers.specs.Bytes.{blockOf, xorBytes};
+ghost use Rattle.words.specs.Bytes.{xorBytes};
+ghost use Rattle.mixers.specs.Blocks.{blockOf};
 
 #[derive(Clone, Copy)]
 pub struct Block<const B: usize> {

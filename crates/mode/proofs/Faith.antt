@@ -12,7 +12,7 @@ use Rattle.std.specs.shelf.Text.{sameBytes}
 use Rattle.std.proofs.shelf.Equals.{sameBytes-decides}
 use Rattle.std.proofs.shelf.Tests.{cond-true}
 use Rattle.std.proofs.shelf.Ways.{tells}
-use Rattle.mixers.specs.Bytes.{over}
+use Rattle.mixers.specs.Blocks.{over}
 use Rattle.mixers.specs.Halves.{Halves, halves, Sized, Lawful}
 use Rattle.mode.specs.Laws.{Admitted, SealedAs, OpensTo, OpensAgain}
 use Rattle.mode.specs.Limits.{dataMost, messageMost}

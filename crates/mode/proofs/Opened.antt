@@ -11,7 +11,7 @@ use Rattle.std.specs.declared.result.Result.{Result}
 use Rattle.std.specs.declared.result.Result.the-variants.{Ok, Err}
 use Rattle.std.proofs.shelf.Lists.{take-at, drop-at, take-append-le}
 use Rattle.std.proofs.shelf.Ways.{tells}
-use Rattle.mixers.specs.Bytes.{over}
+use Rattle.mixers.specs.Blocks.{over}
 use Rattle.mixers.specs.Halves.{Halves, Lawful}
 use Rattle.mode.specs.Laws.{Admitted, SealedAs, OpensSealed}
 use Rattle.mode.specs.Limits.{dataMost}

@@ -7,7 +7,7 @@ use native.Mathlib.Omega.{arith}
 use lib.ListN.{length, set, take, drop, replicate, length-append, length-replicate}
 use Rattle.std.proofs.shelf.Lists.{take-all, take-more-set, take-at}
 use Rattle.std.proofs.shelf.Parts.{drop-append-drop}
-use Rattle.mixers.specs.Bytes.{lowBytes}
+use Rattle.words.specs.Bytes.{lowBytes}
 use Rattle.mode.specs.Padding.{blocksFor, filled, trailer, padMessage}
 use Rattle.mode.specs.Sealing.{cipherLength}
 

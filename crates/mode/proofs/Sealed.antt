@@ -9,7 +9,7 @@ use Rattle.std.specs.declared.result.Result.the-variants.{Ok}
 use Rattle.std.proofs.shelf.Lists.{take-at}
 use Rattle.std.proofs.shelf.Parts.{drop-append-drop}
 use Rattle.std.proofs.shelf.Ways.{tells}
-use Rattle.mixers.specs.Bytes.{over}
+use Rattle.mixers.specs.Blocks.{over}
 use Rattle.mixers.specs.Halves.{Halves}
 use Rattle.mode.specs.Laws.{Admitted}
 use Rattle.mode.specs.Limits.{messageMost}

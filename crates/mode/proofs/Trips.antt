@@ -6,7 +6,7 @@ use native.Mathlib.Nat.{suc-mul}
 use native.Mathlib.Omega.{arith}
 use lib.ListN.{length, take, drop, length-take, length-drop, length-append, take-append-drop}
 use lib.Seq.{take-at, drop-at}
-use Rattle.mixers.specs.Bytes.{xorBytes}
+use Rattle.words.specs.Bytes.{xorBytes}
 use Rattle.mixers.specs.Halves.{Halves, halves, Sized}
 use Rattle.mode.specs.Steps.{turn, Step, sealStep, openStep, runOut, runState, runPrev}
 use Rattle.mixers.proofs.Xor.{xor-cancel, length-xor}

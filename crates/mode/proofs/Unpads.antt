@@ -15,7 +15,7 @@ use Rattle.std.proofs.shelf.Lists.{take-at, drop-at, drop-drop, getD-drop, getD
 use Rattle.std.proofs.shelf.Tests.{leb-true, le-leb, and-parts, and-from, cases-bool, cases-order, cond-true, cond-false, both-ways}
 use Rattle.mode.specs.declared.fault.Fault.the-variants.{NotAuthentic}
 use Rattle.std.specs.shelf.Text.{sameBytes}
-use Rattle.mixers.specs.Bytes.{lowBytes}
+use Rattle.words.specs.Bytes.{lowBytes}
 use Rattle.mode.specs.Limits.{dataMost, messageMost}
 use Rattle.mode.specs.Padding.{nonceBits, trailerNumber, trailer, padMessage, padsTo, unpaddedBelow, unpadded}
 use Rattle.mode.specs.Sealing.{cipherLength}

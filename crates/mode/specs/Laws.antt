@@ -6,7 +6,7 @@ use lib.ListN.{length, take, replicate}
 use Rattle.std.specs.Vec.{made}
 use Rattle.std.specs.declared.result.Result.{Result}
 use Rattle.std.specs.declared.result.Result.the-variants.{Ok}
-use Rattle.mixers.specs.Bytes.{over}
+use Rattle.mixers.specs.Blocks.{over}
 use Rattle.mixers.specs.Halves.{Halves}
 use Rattle.mode.specs.Limits.{dataMost, messageMost}
 use Rattle.mode.specs.Opening.{openAnswer, openLeaves}

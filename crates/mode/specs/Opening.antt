@@ -9,7 +9,7 @@ use Rattle.std.specs.declared.option.Option.the-variants.{Some, None}
 use Rattle.std.specs.declared.result.Result.{Result}
 use Rattle.std.specs.declared.result.Result.the-variants.{Ok, Err}
 use Rattle.std.specs.shelf.Text.{sameBytes}
-use Rattle.mixers.specs.Bytes.{over}
+use Rattle.mixers.specs.Blocks.{over}
 use Rattle.mixers.specs.Halves.{Halves}
 use Rattle.mode.specs.Faults.{unless}
 use Rattle.mode.specs.Limits.{dataMost, messageMost}

@@ -7,7 +7,7 @@ use lib.ListN.{length, take, replicate}
 use Rattle.std.specs.declared.option.Option.{Option}
 use Rattle.std.specs.declared.option.Option.the-variants.{Some, None}
 use Rattle.std.specs.shelf.Text.{sameBytes}
-use Rattle.mixers.specs.Bytes.{lowBytes}
+use Rattle.words.specs.Bytes.{lowBytes}
 use Rattle.mode.specs.Limits.{messageMost, trailerLength}
 
 -- the fewest blocks that hold n bytes

@@ -5,7 +5,8 @@ use lib.Dec.{eqb, leb}
 use lib.ListN.{length}
 use Rattle.std.specs.declared.result.Result.{Result}
 use Rattle.std.specs.declared.result.Result.the-variants.{Ok, Err}
-use Rattle.mixers.specs.Bytes.{xorBytes, over}
+use Rattle.words.specs.Bytes.{xorBytes}
+use Rattle.mixers.specs.Blocks.{over}
 use Rattle.mixers.specs.Halves.{Halves, halves}
 use Rattle.mode.specs.Faults.{unless}
 use Rattle.mode.specs.Limits.{dataMost, messageMost, trailerLength}

@@ -2,7 +2,7 @@
 use mathlib.Core.List.{List, _++_}
 use Prim.Native.Nat.{ℕ, zero, suc, _/_}
 use lib.ListN.{length, take, drop}
-use Rattle.mixers.specs.Bytes.{xorBytes}
+use Rattle.words.specs.Bytes.{xorBytes}
 use Rattle.mixers.specs.Halves.{Halves, halves}
 use Rattle.mode.specs.declared.way.Way.{Way}
 use Rattle.mode.specs.declared.way.Way.the-variants.{Seal, Open}

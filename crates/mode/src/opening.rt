@@ -3,7 +3,7 @@ ghost use mathlib.Core.Logic.{_⊎_};
 ghost use mathlib.Core.Path.{_≡_};
 ghost use Prim.Native.Nat.{_*_, _%_, _≤_};
 ghost use lib.ListN.{length};
-ghost use Rattle.mixers.specs.Bytes.{over};
+ghost use Rattle.mixers.specs.Blocks.{over};
 ghost use Rattle.mode.specs.Laws.{Admitted, OpensSealed};
 ghost use Rattle.mode.specs.Limits.{dataMost};
 ghost use Rattle.mode.specs.Opening.{openedBlocks, openedTag, judged, messageAnswer, openCheck, openAnswer, openLeaves};

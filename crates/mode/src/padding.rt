@@ -4,7 +4,7 @@ ghost use mathlib.Core.Logic.{_⊎_};
 ghost use mathlib.Core.Path.{_≡_};
 ghost use Prim.Native.Nat.{_+_, _-_, _*_, _<_, _≤_};
 ghost use lib.ListN.{length, getD, drop, replicate};
-ghost use Rattle.mixers.specs.Bytes.{lowBytes};
+ghost use Rattle.words.specs.Bytes.{lowBytes};
 ghost use Rattle.mode.specs.Limits.{dataMost, messageMost, trailerLength};
 ghost use Rattle.mode.specs.Opening.{messageAnswer};
 ghost use Rattle.mode.specs.Padding.{trailerNumber, trailer as trailerBytes, padMessage, unpadded};

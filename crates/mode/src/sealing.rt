@@ -5,7 +5,7 @@ ghost use mathlib.Core.Path.{_≡_};
 ghost use Prim.Native.Nat.{_+_, _≤_};
 ghost use lib.ListN.{length};
 ghost use Rattle.std.specs.Vec.{made};
-ghost use Rattle.mixers.specs.Bytes.{over};
+ghost use Rattle.mixers.specs.Blocks.{over};
 ghost use Rattle.mode.specs.Laws.{Admitted, OpensAgain};
 ghost use Rattle.mode.specs.Limits.{messageMost};
 ghost use Rattle.mode.specs.Sealing.{cipherText, cipherTag, cipherLength, sealLengths, sealAnswer, sealLeaves};

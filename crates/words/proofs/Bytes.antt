@@ -25,6 +25,16 @@ pub append-bytes : (a b : List ℕ) → Bytes a → Bytes b → Bytes (a ++ b)
 append-bytes [] b p q = q
 append-bytes (x ∷ a) b p q = (p .0, append-bytes a b (p .1) q)
 
+pub take-bytes : (n : ℕ) (s : List ℕ) → Bytes s → Bytes (take n s)
+take-bytes zero s p = tt
+take-bytes (suc n) [] p = tt
+take-bytes (suc n) (b ∷ s) p = (p .0, take-bytes n s (p .1))
+
+pub drop-bytes : (n : ℕ) (s : List ℕ) → Bytes s → Bytes (drop n s)
+drop-bytes zero s p = p
+drop-bytes (suc n) [] p = tt
+drop-bytes (suc n) (b ∷ s) p = drop-bytes n s (p .1)
+
 -- what stands in front of an append, and behind it
 pub front : (n : ℕ) (a b : List ℕ) → length a ≡ n → take n (a ++ b) ≡ a
 front n a b e = take-append-le n a b (omega arith) ∙ take-all n a (omega arith)
@@ -63,7 +73,6 @@ pub value-append : (a b : List ℕ) → value (a ++ b) ≡ value b * 256 ^ lengt
 unfolding value
 value-append [] b = omega arith
 value-append (x ∷ a) b = rw (value-append a b, pow-suc 256 (length a), ← mul-assoc) (omega arith)
-
 
 pub low-xor : (n x y : ℕ) → lowBytes n (bitXor x y) ≡ xorBytes (lowBytes n x) (lowBytes n y)
 unfolding lowBytes

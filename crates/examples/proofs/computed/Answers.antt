@@ -1,5 +1,5 @@
 use mathlib.Core.Path.{refl}
-use Rattle.mixers.specs.Bytes.{lowBytes}
+use Rattle.words.specs.Bytes.{lowBytes}
 use Rattle.mode.specs.Padding.{filled, trailer, padMessage}
 use Rattle.mode.specs.Sealing.{dataState, dataPrev, cipherText, cipherTag}
 use Rattle.examples.proofs.computed.Needs as need

@@ -2,7 +2,7 @@ use mathlib.Core.Path.{_≡_}
 use mathlib.Core.List.{_++_}
 use Prim.Native.Nat.{_-_}
 use lib.ListN.{length, take}
-use Rattle.mixers.specs.Bytes.{lowBytes}
+use Rattle.words.specs.Bytes.{lowBytes}
 use Rattle.mode.proofs.padding.low_bytes.Given as given
 
 abbrev pub Inv-loop-i : given.InvT-loop-i

@@ -1,5 +1,5 @@
 use mathlib.Core.Path.{ap, _∙_}
-use Rattle.mixers.specs.Bytes.{lowBytes}
+use Rattle.words.specs.Bytes.{lowBytes}
 use Rattle.mode.specs.Padding.{trailer}
 use Rattle.mode.proofs.padding.trailer.Needs as need
 

@@ -1,7 +1,7 @@
 use mathlib.Core.Path.{_≡_}
 use mathlib.Core.List.{_++_}
 use lib.ListN.{take, drop}
-use Rattle.mixers.specs.Bytes.{xorBytes}
+use Rattle.words.specs.Bytes.{xorBytes}
 use Rattle.mixers.proofs.block.Block.xor.Given as given
 
 abbrev pub Inv-loop-i : given.InvT-loop-i

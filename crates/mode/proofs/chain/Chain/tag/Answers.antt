@@ -1,5 +1,5 @@
 use mathlib.Core.Path.{_≡_, ap, _∙_}
-use Rattle.mixers.specs.Bytes.{xorBytes}
+use Rattle.words.specs.Bytes.{xorBytes}
 use Rattle.mixers.proofs.Puts.{block-of-whole}
 use Rattle.mode.proofs.chain.Chain.tag.Needs as need
 
