@@ -17,15 +17,15 @@ use words::Group;
 use words::Long;
 
 // The narrow permutation, of 32 bytes.
-pub fn permute_narrow(x: Group<u64>) -> Group<u64>
-    ensures { λ r. ⌜ laid (lowBytes 8) r ≡ permuted narrow (laid (lowBytes 8) x) ⌝ }
+pub fn permute_narrow(words: Group<u64>) -> Group<u64>
+    ensures { λ r. ⌜ laid (lowBytes 8) r ≡ permuted narrow (laid (lowBytes 8) words) ⌝ }
 {
-    rounds(x, &CONSTANTS)
+    rounds(words, &CONSTANTS)
 }
 
 // The wide permutation, of 64 bytes.
-pub fn permute_wide(x: Group<Long>) -> Group<Long>
-    ensures { λ r. ⌜ laid longBytes r ≡ permuted wide (laid longBytes x) ⌝ }
+pub fn permute_wide(longs: Group<Long>) -> Group<Long>
+    ensures { λ r. ⌜ laid longBytes r ≡ permuted wide (laid longBytes longs) ⌝ }
 {
-    rounds(x, &CONSTANTS)
+    rounds(longs, &CONSTANTS)
 }

@@ -2,8 +2,14 @@
 use mathlib.Core.List.{List, [], _∷_, _++_}
 use mathlib.Core.Path.{_≡_}
 use Prim.Native.Nat.{ℕ, _*_}
+use lib.Bits.{bitXor}
 use lib.ListN.{replicate}
-use Rattle.words.specs.Bytes.{xorBytes}
+use Rattle.words.specs.declared.Group.{Group}
+use Rattle.words.specs.Bytes.{lowBytes, xorBytes}
+use Rattle.words.specs.Diffusion.{diffused}
+use Rattle.words.specs.Linear.{narrowSecond, narrowThird, wideSecond, wideThird}
+use Rattle.words.specs.Sbox.{sboxOf}
+use Rattle.artemia.specs.Artemia.{permuted, narrow, wide}
 use Rattle.mixers.specs.Exchange.{exchanged}
 use Rattle.mixers.specs.Halves.{Halves, halves}
 use Rattle.mode.specs.Padding.{padNonce, padData, trailer}
@@ -17,7 +23,30 @@ stirred s = halves (xorBytes (s .upper) (s .lower)) (s .upper)
 abbrev pub exchangeExample : List ℕ
 exchangeExample = replicate 12 0x11 ++ (0x10 ∷ 0x11 ∷ 0x11 ∷ 0x11 ∷ replicate 16 0)
 
+-- what the permutations give for a state of zero bytes, as one number
+abbrev pub narrowOfZeros : List ℕ
+narrowOfZeros = lowBytes 32 0x3a9eabbccd33af7fecf1abe96cadc1b67d790abd626d33e26f0cfc7e605827c7
+
+abbrev pub wideOfZeros : List ℕ
+wideOfZeros = lowBytes 64 0xe51ffef4d4ccbd041ec980258b26cba874a3282c1831aa4bca57519eac03997172812271abc8dd3b160d177a9a19cb97bb20540ec5af1047f73a19651b16018b
+
+-- four numbers as one group
+abbrev group : ℕ → ℕ → ℕ → ℕ → Group ℕ
+group a b c d = record { x0 = a; x1 = b; x2 = c; x3 = d }
+
 pub record WorkedExamples : Type 0 where
+  -- the S-box, and the linear map L of three of the diffusions
+  pub s-of-b2 : sboxOf 0xb2 ≡ 0x37
+  pub narrow-second-l : narrowSecond 0x8000 ≡ 0x4000
+  pub narrow-third-l : narrowThird 0x08 ≡ 0x11
+  pub wide-third-l : wideThird 0x80 ≡ 0x01
+  -- the four-word rule at X = (1, 0, 0, 0)
+  pub wide-second : diffused bitXor wideSecond (group 1 0 0 0) ≡ group 1 3 4 0xd
+  pub narrow-second : diffused bitXor narrowSecond (group 1 0 0 0) ≡ group 1 3 5 0xc
+  pub wide-third : diffused bitXor wideThird (group 1 0 0 0) ≡ group 0x01 0x07 0x14 0x6d
+  -- the permutations of a state of zero bytes, the lowest byte first
+  pub narrow-of-zeros : permuted narrow (replicate 32 0) ≡ narrowOfZeros
+  pub wide-of-zeros : permuted wide (replicate 64 0) ≡ wideOfZeros
   -- the trailer for a nonce of 8 bytes, data of 10 and a message of 51, at both block lengths
   pub trailer-at-16 : trailer 16 (8 * 8) (8 * 10) (8 * 51) ≡ 0x40 ∷ 0x50 ∷ 0 ∷ 0 ∷ 0x98 ∷ 0x01 ∷ 0 ∷ 0 ∷ 0 ∷ 0 ∷ 0 ∷ 0 ∷ 1 ∷ []
   pub trailer-at-32 : trailer 32 (8 * 8) (8 * 10) (8 * 51) ≡ 0x40 ∷ 0xa0 ∷ 0 ∷ 0 ∷ 0x30 ∷ 0x03 ∷ 0 ∷ 0 ∷ 0 ∷ 0 ∷ 0 ∷ 0 ∷ 2 ∷ []

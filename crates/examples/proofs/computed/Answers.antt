@@ -1,12 +1,24 @@
 use mathlib.Core.Path.{refl}
-use Rattle.words.specs.Bytes.{lowBytes}
+use Rattle.words.specs.Bytes.{lowBytes, value}
+use Rattle.words.specs.Diffusion.{diffused}
+use Rattle.words.specs.Sbox.{sboxOf}
+use Rattle.artemia.specs.Artemia.{parts, cut, joined, four, two, added, round, rounds, permuted}
 use Rattle.mode.specs.Padding.{filled, trailer, padMessage}
 use Rattle.mode.specs.Sealing.{dataState, dataPrev, cipherText, cipherTag}
 use Rattle.examples.proofs.computed.Needs as need
 
 pub returns : need.returns
-unfolding filled lowBytes trailer padMessage dataState dataPrev cipherText cipherTag
+unfolding diffused sboxOf permuted rounds round parts four two joined cut added value filled lowBytes trailer padMessage dataState dataPrev cipherText cipherTag
 returns c = record {
+  s-of-b2 = refl;
+  narrow-second-l = refl;
+  narrow-third-l = refl;
+  wide-third-l = refl;
+  wide-second = refl;
+  narrow-second = refl;
+  wide-third = refl;
+  narrow-of-zeros = refl;
+  wide-of-zeros = refl;
   trailer-at-16 = refl;
   trailer-at-32 = refl;
   nonce-of-two = refl;
