@@ -1,13 +1,28 @@
-// Seals the text of a grade sheet under the bench's exchange mixer, opens it again, and refuses a copy with a damaged
-// tag.
+// Seals the text of a grade sheet under each of the three mixers, opens it again, and refuses a copy with a damaged tag.
 mod bench;
 
 use bench::CIPHER;
-use bench::SEALED;
+use bench::SEALED_MOST;
 use bench::TEXT;
 use bench::open_text;
 use bench::seal_text;
+use mixers::Exchange;
+use mixers::ExchangeMixer;
+use mixers::Mixer;
+use mixers::Narrow;
+use mixers::NarrowMixer;
+use mixers::Wide;
+use mixers::WideMixer;
 use std::error::AnyError;
+
+// Keys of the program's own run. They stand here for all to read.
+const SHORT_KEY: [u8; 16] = *b"factory bench 16";
+
+const LONG_KEY: [u8; 32] = *b"factory bench, 32 bytes of a key";
+
+fn main(rt: LibcRuntime) -> Result<(), AnyError> {
+    rt.report(run(&rt))
+}
 
 // Prints each thing that it completed.
 fn run(rt: &impl Print) -> Result<(), AnyError> {
@@ -17,41 +32,52 @@ fn run(rt: &impl Print) -> Result<(), AnyError> {
     )?;
     let odd = examples::worked_examples()[12];
     println!(rt, "worked example: byte 12 is {odd:#04x}")?;
+    under(rt, "exchange", &Exchange, &SHORT_KEY)?;
+    under(rt, "narrow", &Narrow, &SHORT_KEY)?;
+    under(rt, "wide", &Wide, &LONG_KEY)?;
+    println!(rt, "completed: 3 sealed, 3 opened, 3 refused")?;
+    Ok(())
+}
 
-    let mut sealed = [0; SEALED];
-    let Ok((cipher, all)) = seal_text(&mut sealed) else {
+// One text under one mixer: sealed, opened, and refused from a copy with a damaged tag.
+fn under<const B: usize, M: Mixer<B>>(
+    rt: &impl Print,
+    name: &str,
+    mixer: &M,
+    key: &[u8],
+) -> Result<(), AnyError> {
+    let mut sealed = [0; SEALED_MOST];
+    let Ok((cipher, all)) = seal_text(mixer, key, &mut sealed) else {
         return Err("sealing was refused".into());
     };
-    let length = TEXT.len();
     println!(
         rt,
-        "sealed a text of {length} bytes: ciphertext {cipher}, with the tag {all}"
+        "{name}: sealed {} bytes, ciphertext {cipher}, with the tag {all}: {:02x} {:02x} {:02x} {:02x} ..",
+        TEXT.len(),
+        sealed[0],
+        sealed[1],
+        sealed[2],
+        sealed[3]
     )?;
-
     let mut text = [0xff; CIPHER];
-    match open_text(&sealed, &mut text) {
-        Ok(opened) if opened == length && text[0..51] == TEXT[..] => {
-            println!(rt, "opened the same text of {opened} bytes")?;
+    match open_text(mixer, key, &sealed, &mut text) {
+        Ok(opened) if opened == TEXT.len() && text[0..51] == TEXT[..] => {
+            println!(rt, "{name}: opened the same text")?;
         }
         _ => return Err("the sealed text did not open".into()),
     }
 
-    sealed[SEALED - 1] ^= 1;
+    sealed[CIPHER] ^= 1;
     text = [0xff; CIPHER];
-    match open_text(&sealed, &mut text) {
+    match open_text(mixer, key, &sealed, &mut text) {
         Err(fault) if text == [0; CIPHER] => {
             let code = fault.code();
             println!(
                 rt,
-                "refused a copy with a damaged tag: code {code}, {CIPHER} bytes left zero"
+                "{name}: refused a copy with a damaged tag, code {code}, {CIPHER} bytes left zero"
             )?;
+            Ok(())
         }
-        _ => return Err("a damaged copy was not refused".into()),
+        _ => Err("a damaged copy was not refused".into()),
     }
-    println!(rt, "completed: 1 sealed, 1 opened, 1 refused")?;
-    Ok(())
-}
-
-fn main(rt: LibcRuntime) -> Result<(), AnyError> {
-    rt.report(run(&rt))
 }
