@@ -1,4 +1,4 @@
-// Compares the library with two C implementations of the same cipher: first that all three give the same bytes, then
+// Compares the library with three C implementations of the same cipher: first that all give the same bytes, then
 // how fast each of them is.
 #include "cipher.h"
 
@@ -7,7 +7,7 @@
 #include <string.h>
 #include <time.h>
 
-enum { LIBRARY, WORDS, BYTES, IMPLEMENTATIONS };
+enum { LIBRARY, WORDS, LANES, BYTES, IMPLEMENTATIONS };
 
 // One width, under each implementation.
 struct width {
@@ -27,6 +27,7 @@ static const struct width WIDTHS[2] = {
             {
                 {"library", nirgusel_narrow_mix, nirgusel_narrow_seal, nirgusel_narrow_open},
                 {"C words", words_narrow_mix, words_narrow_seal, words_narrow_open},
+                {"C lanes", lanes_narrow_mix, lanes_narrow_seal, lanes_narrow_open},
                 {"C bytes", bytes_narrow_mix, bytes_narrow_seal, bytes_narrow_open},
             },
     },
@@ -39,6 +40,7 @@ static const struct width WIDTHS[2] = {
             {
                 {"library", nirgusel_wide_mix, nirgusel_wide_seal, nirgusel_wide_open},
                 {"C words", words_wide_mix, words_wide_seal, words_wide_open},
+                {"C lanes", lanes_wide_mix, lanes_wide_seal, lanes_wide_open},
                 {"C bytes", bytes_wide_mix, bytes_wide_seal, bytes_wide_open},
             },
     },
@@ -256,7 +258,8 @@ static void measure(const struct width *width, int kind) {
         else
             printf(" %8.1f MB/s", LENGTH / best[c] * 1e3);
     }
-    printf(" %10.3f %10.3f\n", best[WORDS] / best[LIBRARY], best[BYTES] / best[LIBRARY]);
+    for (int c = 1; c < IMPLEMENTATIONS; c++) printf(" %9.3f", best[c] / best[LIBRARY]);
+    printf("\n");
 }
 
 int main(void) {
@@ -270,9 +273,12 @@ int main(void) {
     randomize(key, sizeof key);
     randomize(header, sizeof header);
     randomize(message, sizeof message);
-    printf("The last two columns are the speed of the library in that of C: more than 1 is faster than C.\n");
+    printf("The last columns are the speed of the library over that of C: more than 1 is faster than C.\n");
     printf("Messages have %d bytes, with a nonce of 8 and data of 10. Best of %d runs, taken in turn.\n\n", LENGTH, ROUNDS);
-    printf("%-16s %11s  %11s  %11s %11s %10s\n", "", "library", "C words", "C bytes", ": C words", ": C bytes");
+    printf("%-16s", "");
+    for (int c = 0; c < IMPLEMENTATIONS; c++) printf(" %13s", WIDTHS[0].ciphers[c].name);
+    for (int c = 1; c < IMPLEMENTATIONS; c++) printf(" %9s", WIDTHS[0].ciphers[c].name);
+    printf("\n");
     for (int w = 0; w < 2; w++)
         for (int kind = 0; kind < KINDS; kind++) measure(&WIDTHS[w], kind);
     return 0;

@@ -53,17 +53,22 @@ mix_function bytes_narrow_mix, bytes_wide_mix;
 seal_function bytes_narrow_seal, bytes_wide_seal;
 open_function bytes_narrow_open, bytes_wide_open;
 
-// C over native words.
+// C over native words, cut as the definition cuts them.
 mix_function words_narrow_mix, words_wide_mix;
 seal_function words_narrow_seal, words_wide_seal;
 open_function words_narrow_open, words_wide_open;
+
+// C over native words that hold many short words at once.
+mix_function lanes_narrow_mix, lanes_wide_mix;
+seal_function lanes_narrow_seal, lanes_wide_seal;
+open_function lanes_narrow_open, lanes_wide_open;
 
 // The library: crates/bench_exports.
 mix_function nirgusel_narrow_mix, nirgusel_wide_mix;
 seal_function nirgusel_narrow_seal, nirgusel_wide_seal;
 open_function nirgusel_narrow_open, nirgusel_wide_open;
 
-// The S-box of FIPS 197, for both C implementations.
+// The S-box of FIPS 197, for the C implementations.
 #define SBOX_ENTRIES \
     0x63, 0x7c, 0x77, 0x7b, 0xf2, 0x6b, 0x6f, 0xc5, 0x30, 0x01, 0x67, 0x2b, 0xfe, 0xd7, 0xab, 0x76, \
     0xca, 0x82, 0xc9, 0x7d, 0xfa, 0x59, 0x47, 0xf0, 0xad, 0xd4, 0xa2, 0xaf, 0x9c, 0xa4, 0x72, 0xc0, \
