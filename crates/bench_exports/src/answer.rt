@@ -1,8 +1,9 @@
 // What sealing and opening answer to C, which knows no `Result`.
 ghost use mathlib.Core.Path.{_≡_};
-ghost use Rattle.bench_exports.specs.Answers.{codeIn, lengthIn, allIn};
-ghost use Rattle.mode.specs.Sealing.{sealAnswer, sealLeaves};
+ghost use Rattle.mode.specs.Faults.{codeOf};
 ghost use Rattle.mode.specs.Opening.{openAnswer, openLeaves};
+ghost use Rattle.mode.specs.Sealing.{sealAnswer, sealLeaves};
+ghost use Rattle.bench_exports.specs.Answers.{codeIn, lengthIn, allIn};
 use mixers::Mixer;
 use mode::Fault;
 use mode::open;
@@ -13,6 +14,16 @@ use mode::seal;
 pub struct Answer {
     pub code: u8,
     pub length: usize,
+}
+
+fn refused(fault: Fault) -> Answer
+    ensures code { λ r. ⌜ r .code ≡ codeOf fault ⌝ }
+    ensures length { λ r. ⌜ r .length ≡ 0 ⌝ }
+{
+    Answer {
+        code: fault.code(),
+        length: 0,
+    }
 }
 
 // `mode::seal`, with the length of ciphertext and tag for its answer.
@@ -29,14 +40,8 @@ pub(crate) fn seal_under<const B: usize, M: Mixer<B>>(
     ensures buffer { λ _. ⌜ now (out .exit) ≡ sealLeaves (mixing (now (mixer .entry))) B (now (key .entry)) (now (nonce .entry)) (now (ad .entry)) (now (message .entry)) (now (out .entry)) ⌝ }
 {
     match seal(mixer, key, nonce, ad, message, out) {
-        Ok((_, all)) => Answer {
-            code: 0,
-            length: all,
-        },
-        Err(fault) => Answer {
-            code: fault.code(),
-            length: 0,
-        },
+        Ok((_, length)) => Answer { code: 0, length },
+        Err(fault) => refused(fault),
     }
 }
 
@@ -56,9 +61,6 @@ pub(crate) fn open_under<const B: usize, M: Mixer<B>>(
 {
     match open(mixer, key, nonce, ad, cipher, tag, text) {
         Ok(length) => Answer { code: 0, length },
-        Err(fault) => Answer {
-            code: fault.code(),
-            length: 0,
-        },
+        Err(fault) => refused(fault),
     }
 }
