@@ -111,9 +111,7 @@ static void check_mode(const struct width *width, size_t room, int damage) {
     static uint8_t filler[ROOM], first[ROOM], other[ROOM], text[ROOM], other_text[ROOM];
     struct answer answer = {0, 0}, opened = {0, 0};
     size_t block = width->block;
-    randomize(filler, 64);
-    memcpy(first, filler, ROOM);
-    memcpy(text, filler, ROOM);
+    memset(filler, 0xa5, ROOM);
     for (int c = 0; c < IMPLEMENTATIONS; c++) {
         uint8_t *out = c == 0 ? first : other;
         memcpy(out, filler, ROOM);
@@ -124,7 +122,7 @@ static void check_mode(const struct width *width, size_t room, int damage) {
         if (a.code != answer.code || a.length != answer.length)
             disagree(width, width->ciphers[c].name, "another answer of sealing");
         if (memcmp(out, first, ROOM) != 0) disagree(width, width->ciphers[c].name, "other sealed bytes");
-        if (a.code == DONE) sealings++; else refusals++;
+        *(a.code == DONE ? &sealings : &refusals) += 1;
     }
     if (answer.code != DONE) return;
     size_t cipher_length = answer.length - block;
@@ -164,6 +162,21 @@ static void give(size_t key, size_t nonce, size_t data, size_t message) {
     randomize(given.message, message);
 }
 
+// Opening is refused with `code` from the lengths alone, and writes nothing.
+static void check_refused(const struct width *width, size_t key, size_t nonce, size_t data, size_t cipher, size_t tag,
+                          size_t room, uint8_t code) {
+    static uint8_t given_cipher[ROOM], text[ROOM];
+    for (int c = 0; c < IMPLEMENTATIONS; c++) {
+        memset(text, 0xa5, ROOM);
+        struct answer a = width->ciphers[c].open(given.key, key, given.nonce, nonce, given.data, data, given_cipher,
+                                                 cipher, given.key, tag, text, room);
+        if (a.code != code || a.length != 0) disagree(width, width->ciphers[c].name, "another refusal of opening");
+        for (size_t i = 0; i < ROOM; i++)
+            if (text[i] != 0xa5) disagree(width, width->ciphers[c].name, "a refusal wrote text");
+        refusals++;
+    }
+}
+
 static void check_modes(const struct width *width) {
     size_t b = width->block;
     // every length of message up to some blocks, with other lengths beside it
@@ -171,7 +184,7 @@ static void check_modes(const struct width *width) {
         give(b, length % (b + 1), length * 7 % 70, length);
         check_mode(width, ROOM, 0);
     }
-    // the bench's own message, whole and with each bit of its tag damaged in turn
+    // the message that is timed, whole and with each byte of its tag damaged in turn
     give(b, 8, 10, 833);
     check_mode(width, ROOM, 0);
     size_t all = (833 + TRAILER + b - 1) / b * b + b;
@@ -192,6 +205,14 @@ static void check_modes(const struct width *width) {
     give(b, 8, 10, 100);
     check_mode(width, 128 + b - 1, 0);
     check_mode(width, 128 + b, 0);
+    check_refused(width, b - 1, 8, 10, 128, b, 128, KEY_LENGTH);
+    check_refused(width, b, b + 1, 10, 128, b, 128, NONCE_TOO_LONG);
+    check_refused(width, b, 8, DATA_MOST + 1, 128, b, 128, DATA_TOO_LONG);
+    check_refused(width, b, 8, 10, 128, b - 1, 128, CIPHER_LENGTH);
+    check_refused(width, b, 8, 10, 0, b, 128, CIPHER_LENGTH);
+    check_refused(width, b, 8, 10, 127, b, 128, CIPHER_LENGTH);
+    check_refused(width, b, 8, 10, MESSAGE_MOST + 2 * b, b, ROOM, CIPHER_LENGTH);
+    check_refused(width, b, 8, 10, 128, b, 127, BUFFER_TOO_SHORT);
 }
 
 // ---- Time
@@ -214,25 +235,28 @@ static const char *const KIND[KINDS] = {"mixing", "sealing", "opening"};
 static double run(const struct width *width, const struct cipher *cipher, int kind, long count) {
     size_t b = width->block;
     size_t cipher_length = (LENGTH + TRAILER + b - 1) / b * b;
+    uint8_t codes = DONE;
     double start = now();
     for (long i = 0; i < count; i++) {
         if (kind == MIX) {
             cipher->mix(state);
         } else if (kind == SEAL) {
             header[9] = (uint8_t)i;
-            cipher->seal(key, b, header + 2, 8, header, 10, message, LENGTH, sealed, sizeof sealed);
+            codes |= cipher->seal(key, b, header + 2, 8, header, 10, message, LENGTH, sealed, sizeof sealed).code;
         } else {
-            cipher->open(key, b, header + 2, 8, header, 10, sealed, cipher_length, sealed + cipher_length, b, text,
-                         sizeof text);
+            codes |= cipher->open(key, b, header + 2, 8, header, 10, sealed, cipher_length, sealed + cipher_length, b,
+                                  text, sizeof text).code;
         }
     }
-    return now() - start;
+    double time = now() - start;
+    if (codes != DONE) disagree(width, cipher->name, "refused what was timed");
+    return time;
 }
 
 static void measure(const struct width *width, int kind) {
     double best[IMPLEMENTATIONS];
     long count[IMPLEMENTATIONS];
-    header[9] = 0;
+    // what is opened
     width->ciphers[0].seal(key, width->block, header + 2, 8, header, 10, message, LENGTH, sealed, sizeof sealed);
     for (int c = 0; c < IMPLEMENTATIONS; c++) {
         count[c] = 1;
@@ -240,10 +264,6 @@ static void measure(const struct width *width, int kind) {
         double once = run(width, &width->ciphers[c], kind, count[c]) / (double)count[c];
         count[c] = (long)(RUN / once) + 1;
         best[c] = 1e300;
-    }
-    if (kind == OPEN) {
-        header[9] = 0;
-        width->ciphers[0].seal(key, width->block, header + 2, 8, header, 10, message, LENGTH, sealed, sizeof sealed);
     }
     for (int n = 0; n < ROUNDS; n++) {
         for (int c = 0; c < IMPLEMENTATIONS; c++) {

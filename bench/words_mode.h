@@ -2,15 +2,13 @@
 // the lowest first, and NAMED, which makes the name of an exported function.
 #include <string.h>
 
-// At both widths, for a block of `words` words, a constant of each call once all is inlined.
-static __attribute__((noinline)) void mix_narrow_state(uint64_t *state) { mix_narrow(state); }
-static __attribute__((noinline)) void mix_wide_state(uint64_t *state) { mix_wide(state); }
-
+// At both widths, for a block of `words` words, a constant of each call. The mixing is inlined: as a call it would write
+// the state to memory and read it again at every block.
 INLINE void mix(int words, uint64_t *state) {
     if (words == 2)
-        mix_narrow_state(state);
+        mix_narrow(state);
     else
-        mix_wide_state(state);
+        mix_wide(state);
 }
 
 void NAMED(narrow_mix)(uint8_t *state) {
