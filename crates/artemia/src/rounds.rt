@@ -30,13 +30,17 @@ pub(crate) fn rounds<W: Lane>(x: Group<W>, constants: &[[u64; 4]]) -> Group<W>
 fn round<W: Lane>(x: Group<W>, constant: [u64; 4]) -> Group<W>
     ensures { λ r. ⌜ laid held r ≡ roundOf kind (constantOf (kind .long) constant) (laid held x) ⌝ }
 {
-    let y = W::spread(add(x, constant));
-    Group {
-        x0: y.x0.finish(),
-        x1: y.x1.finish(),
-        x2: y.x2.finish(),
-        x3: y.x3.finish(),
+    let mut state = W::spread(add(x, constant));
+    // Each word is finished in its turn. With one call of `finish` the compiler puts its code in place.
+    for _ in 0..4usize {
+        state = Group {
+            x0: state.x1,
+            x1: state.x2,
+            x2: state.x3,
+            x3: state.x0.finish(),
+        };
     }
+    state
 }
 
 // Exclusive or with a constant.

@@ -34,9 +34,12 @@ impl<const B: usize> Block<B> {
     pub fn xor(&mut self, other: &Block<B>)
         ensures { λ _. ⌜ now (self .exit) .bytes ≡ xorBytes (now (self .entry) .bytes) (now (other .entry) .bytes) ⌝ }
     {
+        let right = other.bytes;
+        let mut sum = self.bytes;
         for i in 0..B {
-            self.bytes[i] ^= other.bytes[i];
+            sum[i] ^= right[i];
         }
+        self.bytes = sum;
     }
 
     // Writes `bytes` over the front.

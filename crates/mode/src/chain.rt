@@ -64,11 +64,13 @@ impl<const B: usize> Chain<B> {
         match way {
             Way::Seal => {
                 self.absorb(mixer, &block);
-                place.copy_from_slice(&self.state.upper.bytes);
+                let cipher = self.state.upper;
+                place.copy_from_slice(&cipher.bytes);
             }
             Way::Open => {
                 self.recover(mixer, &block);
-                place.copy_from_slice(&self.prev.bytes);
+                let message = self.prev;
+                place.copy_from_slice(&message.bytes);
             }
         }
     }
