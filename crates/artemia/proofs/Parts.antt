@@ -1,13 +1,13 @@
 -- Layers on parts of a byte string.
-use mathlib.Core.Path.{_≡_, refl, sym, ap, _∙_}
-use mathlib.Core.List.{List, [], _∷_, _++_, map, append-nil, append-assoc}
+use mathlib.Core.Path.{_≡_, sym, ap, _∙_}
+use mathlib.Core.List.{List, [], _∷_, _++_, append-nil, append-assoc}
 use Prim.Native.Nat.{ℕ, zero, suc, _+_, _*_, _^_, _≤_, _<_}
 use native.Mathlib.Nat.{suc-add, suc-mul, zero-add}
 use native.Mathlib.Omega.{arith}
 use lib.Bits.{bitXor}
-use lib.ListN.{length, take, drop, length-append, length-map, length-drop}
+use lib.ListN.{length, take, drop, length-map, length-drop}
 use lib.Seq.{take-all, take-append-le, drop-append-le, drop-drop}
-use Rattle.std.proofs.shelf.Lists.{drop-all, map-append}
+use Rattle.std.proofs.shelf.Lists.{map-append}
 use Rattle.words.specs.declared.Group.{Group}
 use Rattle.words.specs.Bytes.{lowBytes, value}
 use Rattle.words.specs.Diffusion.{diffused}
@@ -105,7 +105,7 @@ pub round-is : (k : Kind) (c : ℕ) (s x0 x1 x2 x3 : List ℕ)
     → four (k .long) (k .first) (added c s) ≡ x0 ++ (x1 ++ (x2 ++ x3))
     → round k c s ≡ finished k x0 ++ (finished k x1 ++ (finished k x2 ++ finished k x3))
 unfolding round finished
-round-is k c s x0 x1 x2 x3 l0 l1 l2 l3 e =
+round-is k c s x0 x1 x2 x3 n0 n1 n2 n3 e =
     let n = k .short in
     let f = k .third in
     let q : List ℕ → List ℕ = four n (k .second) in
@@ -116,7 +116,7 @@ round-is k c s x0 x1 x2 x3 l0 l1 l2 l3 e =
     ∙ ap (λ t. substituted (parts n 16 f (substituted (parts (k .long) 4 q t)))) (sub-four x0 x1 x2 x3)
     ∙ ap (λ t. substituted (parts n 16 f (substituted t)))
     (parts-four (k .long) q (substituted x0) (substituted x1) (substituted x2) (substituted x3)
-    (length-sub x0 (k .long) l0) (length-sub x1 (k .long) l1) (length-sub x2 (k .long) l2) (length-sub x3 (k .long) l3))
+    (length-sub x0 (k .long) n0) (length-sub x1 (k .long) n1) (length-sub x2 (k .long) n2) (length-sub x3 (k .long) n3))
     ∙ ap (λ t. substituted (parts n 16 f t)) (sub-four (p x0) (p x1) (p x2) (p x3))
     ∙ ap substituted (parts-sixteen n f (r x0) (r x1) (r x2) (r x3) (l x0) (l x1) (l x2))
     ∙ sub-four (parts n 4 f (r x0)) (parts n 4 f (r x1)) (parts n 4 f (r x2)) (parts n 4 f (r x3))

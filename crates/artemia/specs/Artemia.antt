@@ -5,7 +5,6 @@ use Prim.Native.Nat.{ℕ, zero, suc, _+_, _*_, _^_}
 use lib.Bits.{bitXor}
 use lib.ListN.{length, take, drop}
 use Rattle.words.specs.declared.Group.{Group}
-use Rattle.words.specs.declared.Pair.{Pair}
 use Rattle.words.specs.Bytes.{lowBytes, value}
 use Rattle.words.specs.Diffusion.{diffused, coupled}
 use Rattle.words.specs.Linear.{wideThird, narrowSecond, wideSecond, narrowFirst, wideFirst, narrowThird}

@@ -1,6 +1,6 @@
 -- States as the code holds them: four words, and the bytes that these stand for.
 use mathlib.Core.List.{List, _++_}
-use mathlib.Core.Path.{_≡_, _∙_}
+use mathlib.Core.Path.{_≡_}
 use Prim.Native.Nat.{ℕ}
 use lib.ListN.{length, getD, length-append}
 use Rattle.words.specs.declared.Group.{Group}

@@ -1,5 +1,5 @@
 -- Words of two, four and eight bytes: what the conversions of the code give, and what makes one word of several.
-use mathlib.Core.Path.{_≡_, refl, sym, ap, _∙_}
+use mathlib.Core.Path.{_≡_, refl, sym, _∙_}
 use mathlib.Core.List.{List, [], _∷_, _++_}
 use Prim.Native.Nat.{ℕ, suc, _+_, _*_, _/_, _%_, _^_, _<_, _≤_}
 use native.Mathlib.Nat.{div-div-eq-div-mul}
@@ -7,7 +7,7 @@ use native.Mathlib.Omega.{arith}
 use lib.ListN.{length, getD, take, drop, length-append}
 use lib.Seq.{take-all, take-add}
 use Rattle.std.proofs.shelf.Lists.{drop-more}
-use Rattle.words.specs.Bytes.{lowBytes, value, Bytes}
+use Rattle.words.specs.Bytes.{lowBytes, value}
 use Rattle.words.proofs.Bytes.{length-low, low-are-bytes, append-bytes, named, value-low, value-append}
 
 -- the bytes of a word, as the code writes them out

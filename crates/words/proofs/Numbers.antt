@@ -1,19 +1,17 @@
 -- The word of 128 bits: its halves and its bytes are those of its number.
 use mathlib.Core.Path.{_≡_, sym, ap, _∙_}
 use mathlib.Core.List.{_++_}
-use Prim.Native.Nat.{ℕ, _+_, _*_, _/_, _%_, _^_, _<_}
+use Prim.Native.Nat.{ℕ, _+_, _/_, _%_, _^_, _<_}
 use native.Mathlib.Nat.{div-div-eq-div-mul}
 use native.Mathlib.Omega.{arith}
 use lib.Bits.{bitXor, xor-shr, xor-mod, xor-zero-r}
-use lib.ListN.{length, length-append}
+use lib.ListN.{length}
 use Rattle.std.proofs.shelf.Bits.{shr-split, shr-high, mod-low}
-use Rattle.words.specs.declared.group.Group.{Group}
 use Rattle.words.specs.declared.long.Long.{Long}
-use Rattle.words.specs.Bytes.{lowBytes, value, xorBytes, Bytes}
-use Rattle.words.specs.Diffusion.{diffused}
+use Rattle.words.specs.Bytes.{lowBytes, value, xorBytes}
 use Rattle.words.specs.Linear.{wideFirst}
 use Rattle.words.specs.Long.{number, longOf, xorLong, linearLong, longBytes}
-use Rattle.words.proofs.Bytes.{length-low, low-are-bytes, append-bytes, low-above, low-xor, xor-append, value-low, value-append}
+use Rattle.words.proofs.Bytes.{length-low, low-above, low-xor, xor-append, value-low, value-append}
 
 pub long-plus : (x y : ℕ) → longOf (bitXor x y) ≡ xorLong (longOf x) (longOf y)
 long-plus x y = rw (xor-shr x y 64, xor-mod x y 64)

@@ -1,5 +1,4 @@
 use mathlib.Core.Path.{_≡_, ap, _∙_}
-use mathlib.Core.List.{[], _∷_}
 use lib.ListN.{getD}
 use Rattle.words.specs.Sbox.{sboxOf}
 use Rattle.words.specs.Bytes.{lowBytes}

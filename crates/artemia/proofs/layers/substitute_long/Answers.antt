@@ -1,11 +1,9 @@
-use mathlib.Core.Path.{_≡_, sym, ap, _∙_}
+use mathlib.Core.Path.{sym, ap, _∙_}
 use mathlib.Core.List.{_++_, append-assoc}
 use Prim.Native.Nat.{_/_, _%_, _<_, _^_}
 use native.Mathlib.Omega.{arith}
 use borrow.Author.Needs.{needs}
 use lib.Bits.{and-mask}
-use Rattle.std.proofs.shelf.Lists.{map-append}
-use Rattle.words.specs.Sbox.{sboxOf}
 use Rattle.artemia.specs.Artemia.{joined, substituted}
 use Rattle.words.specs.Bytes.{lowBytes}
 use Rattle.words.proofs.Conversions.{of-words}

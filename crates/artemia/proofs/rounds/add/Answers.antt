@@ -1,10 +1,8 @@
-use mathlib.Core.Path.{_≡_, sym, _∙_}
-use mathlib.Core.List.{List}
+use mathlib.Core.Path.{sym, _∙_}
 use Prim.Native.Nat.{ℕ}
 use lib.ListN.{getD}
 use Rattle.words.specs.declared.Group.{Group}
 use Rattle.artemia.specs.Artemia.{joined}
-use Rattle.words.specs.Bytes.{lowBytes}
 use Rattle.artemia.specs.Lanes.{laid, constantOf}
 use Rattle.words.proofs.Bytes.{all-four}
 use Rattle.artemia.proofs.Lanes.{added-is, laid-sized, laid-bytes, laid-xor, numbers}

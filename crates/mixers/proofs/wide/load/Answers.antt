@@ -1,4 +1,4 @@
-use mathlib.Core.Path.{_≡_, sym, ap, _∙_}
+use mathlib.Core.Path.{sym, _∙_}
 use mathlib.Core.List.{_++_, append-assoc}
 use lib.ListN.{take, drop}
 use Rattle.artemia.specs.Lanes.{laid}

@@ -1,6 +1,5 @@
 use mathlib.Core.Path.{_≡_, _∙_}
 use native.Mathlib.Omega.{arith}
-use borrow.Author.Needs.{needs}
 use lib.ListN.{length, length-append}
 use Rattle.words.specs.Bytes.{lowBytes}
 use Rattle.words.specs.Long.{longBytes}

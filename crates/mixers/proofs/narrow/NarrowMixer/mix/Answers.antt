@@ -1,8 +1,7 @@
-use mathlib.Core.Path.{_≡_, ap, _∙_}
+use mathlib.Core.Path.{ap, _∙_}
 use Rattle.artemia.specs.Artemia.{permuted, narrow}
 use Rattle.artemia.specs.Lanes.{word-held}
 use Rattle.artemia.proofs.Lanes.{in-halves}
-use Rattle.mixers.specs.Halves.{halves}
 use Rattle.mixers.proofs.narrow.NarrowMixer.mix.Needs as need
 
 pub returns : need.returns
