@@ -49,13 +49,15 @@ pub(crate) fn couple_all(g: Group<u16>) -> Group<u16>
     }
 }
 
+// The word whose four parts these are, the lowest first.
 pub(crate) fn join_pairs(g: Group<u16>) -> u64
     ensures { λ r. ⌜ lowBytes 8 r ≡ joined 2 g ⌝ }
 {
     u64::from(g.x0) + (u64::from(g.x1) << 16) + (u64::from(g.x2) << 32) + (u64::from(g.x3) << 48)
 }
 
-fn substitute_half(x: u32) -> u32
+// S at every byte.
+fn substitute_bytes(x: u32) -> u32
     ensures { λ r. ⌜ lowBytes 4 r ≡ substituted (lowBytes 4 x) ⌝ }
 {
     let b = x.to_le_bytes();
@@ -103,13 +105,14 @@ pub(crate) fn substitute_long(x: Long) -> Group<u32>
     ensures { λ r. ⌜ joined 4 r ≡ substituted (longBytes x) ⌝ }
 {
     Group {
-        x0: substitute_half((x.lo & 0xffff_ffff) as u32),
-        x1: substitute_half((x.lo >> 32) as u32),
-        x2: substitute_half((x.hi & 0xffff_ffff) as u32),
-        x3: substitute_half((x.hi >> 32) as u32),
+        x0: substitute_bytes((x.lo & 0xffff_ffff) as u32),
+        x1: substitute_bytes((x.lo >> 32) as u32),
+        x2: substitute_bytes((x.hi & 0xffff_ffff) as u32),
+        x3: substitute_bytes((x.hi >> 32) as u32),
     }
 }
 
+// The word whose four parts these are, the lowest first.
 pub(crate) fn join_words(g: Group<u32>) -> Long
     ensures { λ r. ⌜ longBytes r ≡ joined 4 g ⌝ }
 {

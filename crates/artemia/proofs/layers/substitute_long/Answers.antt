@@ -19,7 +19,7 @@ returns c =
     let hh : x .hi < 2 ^ 64 = search needs in
     let low = of-words (x .lo) (x .lo % 2 ^ 32) (x .lo / 2 ^ 32) (omega arith) (omega arith) (omega arith) in
     let high = of-words (x .hi) (x .hi % 2 ^ 32) (x .hi / 2 ^ 32) (omega arith) (omega arith) (omega arith) in
-    all-four (c .substitute-half .ensures ∙ ap (λ n. substituted (lowBytes 4 n)) (and-mask (x .lo) 32)) (c .substitute-half-2 .ensures)
-    (c .substitute-half-3 .ensures ∙ ap (λ n. substituted (lowBytes 4 n)) (and-mask (x .hi) 32)) (c .substitute-half-4 .ensures)
+    all-four (c .substitute-bytes .ensures ∙ ap (λ n. substituted (lowBytes 4 n)) (and-mask (x .lo) 32)) (c .substitute-bytes-2 .ensures)
+    (c .substitute-bytes-3 .ensures ∙ ap (λ n. substituted (lowBytes 4 n)) (and-mask (x .hi) 32)) (c .substitute-bytes-4 .ensures)
     ∙ sym (sub-four (lowBytes 4 (x .lo % 2 ^ 32)) (lowBytes 4 (x .lo / 2 ^ 32)) (lowBytes 4 (x .hi % 2 ^ 32)) (lowBytes 4 (x .hi / 2 ^ 32)))
     ∙ ap substituted (sym (rw (low, high) (append-assoc (lowBytes 4 (x .lo % 2 ^ 32)) (lowBytes 4 (x .lo / 2 ^ 32)) (lowBytes 4 (x .hi % 2 ^ 32) ++ lowBytes 4 (x .hi / 2 ^ 32)))))

@@ -3,7 +3,7 @@ use lib.ListN.{getD}
 use Rattle.words.specs.Sbox.{sboxOf}
 use Rattle.words.specs.Bytes.{lowBytes}
 use Rattle.words.proofs.Conversions.{le-four, of-four}
-use Rattle.artemia.proofs.layers.substitute_half.Needs as need
+use Rattle.artemia.proofs.layers.substitute_bytes.Needs as need
 
 pub returns : need.returns
 unfolding lowBytes
