@@ -101,22 +101,22 @@ parts-sixteen n f a b c d la lb lc =
 
 -- a round, once D1 has given four words
 pub round-is : (k : Kind) (c : ℕ) (s x0 x1 x2 x3 : List ℕ)
-    → length x0 ≡ k .long → length x1 ≡ k .long → length x2 ≡ k .long → length x3 ≡ k .long
-    → four (k .long) (k .first) (added c s) ≡ x0 ++ (x1 ++ (x2 ++ x3))
+    → length x0 ≡ k .firstBytes → length x1 ≡ k .firstBytes → length x2 ≡ k .firstBytes → length x3 ≡ k .firstBytes
+    → four (k .firstBytes) (k .first) (added c s) ≡ x0 ++ (x1 ++ (x2 ++ x3))
     → round k c s ≡ finished k x0 ++ (finished k x1 ++ (finished k x2 ++ finished k x3))
 unfolding round finished
 round-is k c s x0 x1 x2 x3 n0 n1 n2 n3 e =
-    let n = k .short in
+    let n = k .secondBytes in
     let f = k .third in
     let q : List ℕ → List ℕ = four n (k .second) in
     let p : List ℕ → List ℕ = λ x. q (substituted x) in
     let r : List ℕ → List ℕ = λ x. substituted (p x) in
     let l : (x : List ℕ) → length (r x) ≡ 4 * n = λ x. length-sub (p x) (4 * n) (length-four n (k .second) (substituted x)) in
-    ap (λ t. substituted (parts n 16 f (substituted (parts (k .long) 4 q (substituted t))))) e
-    ∙ ap (λ t. substituted (parts n 16 f (substituted (parts (k .long) 4 q t)))) (sub-four x0 x1 x2 x3)
+    ap (λ t. substituted (parts n 16 f (substituted (parts (k .firstBytes) 4 q (substituted t))))) e
+    ∙ ap (λ t. substituted (parts n 16 f (substituted (parts (k .firstBytes) 4 q t)))) (sub-four x0 x1 x2 x3)
     ∙ ap (λ t. substituted (parts n 16 f (substituted t)))
-    (parts-four (k .long) q (substituted x0) (substituted x1) (substituted x2) (substituted x3)
-    (length-sub x0 (k .long) n0) (length-sub x1 (k .long) n1) (length-sub x2 (k .long) n2) (length-sub x3 (k .long) n3))
+    (parts-four (k .firstBytes) q (substituted x0) (substituted x1) (substituted x2) (substituted x3)
+    (length-sub x0 (k .firstBytes) n0) (length-sub x1 (k .firstBytes) n1) (length-sub x2 (k .firstBytes) n2) (length-sub x3 (k .firstBytes) n3))
     ∙ ap (λ t. substituted (parts n 16 f t)) (sub-four (p x0) (p x1) (p x2) (p x3))
     ∙ ap substituted (parts-sixteen n f (r x0) (r x1) (r x2) (r x3) (l x0) (l x1) (l x2))
     ∙ sub-four (parts n 4 f (r x0)) (parts n 4 f (r x1)) (parts n 4 f (r x2)) (parts n 4 f (r x3))

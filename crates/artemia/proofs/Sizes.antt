@@ -56,16 +56,16 @@ two-sized : (s : List ℕ) → length (two s) ≡ 2
 unfolding two lowBytes
 two-sized s = refl
 
-module _ (k : Kind) (sized : (s : List ℕ) → length (k .third s) ≡ k .short) (byted : (s : List ℕ) → Bytes (k .third s)) where
-  rounds-sized : (cs s : List ℕ) → length s ≡ 16 * k .short → length (rounds k cs s) ≡ 16 * k .short
+module _ (k : Kind) (sized : (s : List ℕ) → length (k .third s) ≡ k .secondBytes) (byted : (s : List ℕ) → Bytes (k .third s)) where
+  rounds-sized : (cs s : List ℕ) → length s ≡ 16 * k .secondBytes → length (rounds k cs s) ≡ 16 * k .secondBytes
   unfolding rounds round
   rounds-sized [] s e = e
-  rounds-sized (c ∷ cs) s e = rounds-sized cs (round k c s) (length-map _ sboxOf ∙ parts-sized (k .short) 16 (k .short) (k .third) sized _)
+  rounds-sized (c ∷ cs) s e = rounds-sized cs (round k c s) (length-map _ sboxOf ∙ parts-sized (k .secondBytes) 16 (k .secondBytes) (k .third) sized _)
 
   rounds-bytes : (cs s : List ℕ) → Bytes s → Bytes (rounds k cs s)
   unfolding rounds round
   rounds-bytes [] s p = p
-  rounds-bytes (c ∷ cs) s p = rounds-bytes cs (round k c s) (sub-bytes _ (parts-bytes (k .short) 16 (k .third) byted _))
+  rounds-bytes (c ∷ cs) s p = rounds-bytes cs (round k c s) (sub-bytes _ (parts-bytes (k .secondBytes) 16 (k .third) byted _))
 
 -- a permutation gives a state of its own length, and bytes
 pub record Keeps (n : ℕ) (f : List ℕ → List ℕ) : Type 0 where

@@ -44,12 +44,12 @@ two s =
 unfoldable pub added : ℕ → List ℕ → List ℕ
 added c s = lowBytes (length s) (bitXor (value s) c)
 
--- What tells the two permutations apart. D1 is the four-word rule on words of `long` bytes with the map `first`; D2 the
--- same rule on words of `short` bytes with `second`, in each word of D1; D3 is `third`, on the bytes of each word of D2.
--- `places` has one place for each round constant.
+-- What tells the two permutations apart. D1 is the four-word rule on words of `firstBytes` bytes with the map `first`; D2
+-- the same rule on words of `secondBytes` bytes with `second`, in each word of D1; D3 is `third`, on the bytes of each word
+-- of D2. `places` has one place for each round constant.
 pub record Kind : Type 0 where
-  pub long : ℕ
-  pub short : ℕ
+  pub firstBytes : ℕ
+  pub secondBytes : ℕ
   pub first : ℕ → ℕ
   pub second : ℕ → ℕ
   pub third : List ℕ → List ℕ
@@ -58,9 +58,9 @@ pub record Kind : Type 0 where
 -- One round, with the constant c: it is added, then come D1, D2 and D3, with S after each.
 unfoldable pub round : Kind → ℕ → List ℕ → List ℕ
 round k c s =
-    let d1 = four (k .long) (k .first) (added c s) in
-    let d2 = parts (k .long) 4 (four (k .short) (k .second)) (substituted d1) in
-    let d3 = parts (k .short) 16 (k .third) (substituted d2) in
+    let d1 = four (k .firstBytes) (k .first) (added c s) in
+    let d2 = parts (k .firstBytes) 4 (four (k .secondBytes) (k .second)) (substituted d1) in
+    let d3 = parts (k .secondBytes) 16 (k .third) (substituted d2) in
     substituted d3
 
 unfoldable pub rounds : Kind → List ℕ → List ℕ → List ℕ
@@ -82,8 +82,8 @@ permuted k s = rounds k (constants k) s
 
 abbrev pub narrow : Kind
 narrow = record {
-  long = 8;
-  short = 2;
+  firstBytes = 8;
+  secondBytes = 2;
   first = narrowFirst;
   second = narrowSecond;
   third = two;
@@ -92,8 +92,8 @@ narrow = record {
 
 abbrev pub wide : Kind
 wide = record {
-  long = 16;
-  short = 4;
+  firstBytes = 16;
+  secondBytes = 4;
   first = wideFirst;
   second = wideSecond;
   third = four 1 wideThird;

@@ -19,7 +19,7 @@ constantOf n c = value (joined n (record { x0 = getD c 0 0; x1 = getD c 1 0; x2 
 
 -- what a round does to the bytes of one word after D1: S, D2, S, D3, S
 unfoldable pub finished : Kind → List ℕ → List ℕ
-finished k s = substituted (parts (k .short) 4 (k .third) (substituted (four (k .short) (k .second) (substituted s))))
+finished k s = substituted (parts (k .secondBytes) 4 (k .third) (substituted (four (k .secondBytes) (k .second) (substituted s))))
 
 -- a word has n bytes
 pub record HeldLaws {W : Type 0} (n : ℕ) (held : W → List ℕ) : Type 0 where

@@ -9,10 +9,10 @@ ghost use Rattle.artemia.specs.Artemia.{Kind, narrow, wide, four};
 ghost use Rattle.artemia.specs.Lanes.{laid, finished, HeldLaws, word-held, long-held};
 use crate::layers::couple_all;
 use crate::layers::diffuse_all;
-use crate::layers::join_pairs;
-use crate::layers::join_words;
-use crate::layers::substitute_long;
-use crate::layers::substitute_word;
+use crate::layers::join_narrow;
+use crate::layers::join_wide;
+use crate::layers::substitute_narrow;
+use crate::layers::substitute_wide;
 use words::Group;
 use words::Long;
 use words::LongWord;
@@ -28,15 +28,15 @@ pub(crate) trait Lane: Copy {
     // its bytes, the lowest first
     ghost held: { Self → List ℕ };
 
-    ghost laws: { HeldLaws (kind .long) held };
+    ghost laws: { HeldLaws (kind .firstBytes) held };
 
     // Exclusive or with a number of 64 bits.
     fn add_low(self, low: u64) -> Self
-        ensures { λ r. ⌜ held r ≡ xorBytes (held self) (lowBytes (kind .long) low) ⌝ };
+        ensures { λ r. ⌜ held r ≡ xorBytes (held self) (lowBytes (kind .firstBytes) low) ⌝ };
 
     // D1.
     fn spread(x: Group<Self>) -> Group<Self>
-        ensures { λ r. ⌜ laid held r ≡ four (kind .long) (kind .first) (laid held x) ⌝ };
+        ensures { λ r. ⌜ laid held r ≡ four (kind .firstBytes) (kind .first) (laid held x) ⌝ };
 
     // What a round does to a word after D1: S, D2, S, D3, S.
     fn finish(self) -> Self
@@ -61,7 +61,7 @@ pub(crate) impl Lane for u64 as NarrowLane {
     }
 
     fn finish(self) -> u64 {
-        join_pairs(couple_all(diffuse(substitute_word(self))))
+        join_narrow(couple_all(diffuse(substitute_narrow(self))))
     }
 }
 
@@ -86,6 +86,6 @@ pub(crate) impl Lane for Long as WideLane {
     }
 
     fn finish(self) -> Long {
-        join_words(diffuse_all(diffuse(substitute_long(self))))
+        join_wide(diffuse_all(diffuse(substitute_wide(self))))
     }
 }

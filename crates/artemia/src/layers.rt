@@ -13,7 +13,7 @@ use words::diffuse;
 use words::substitute;
 
 // The four words of two bytes of `x`, with S at every byte.
-pub(crate) fn substitute_word(x: u64) -> Group<u16>
+pub(crate) fn substitute_narrow(x: u64) -> Group<u16>
     ensures { λ r. ⌜ joined 2 r ≡ substituted (lowBytes 8 x) ⌝ }
 {
     let b = x.to_le_bytes();
@@ -26,7 +26,7 @@ pub(crate) fn substitute_word(x: u64) -> Group<u16>
 }
 
 // S, the rule of two bytes, and S.
-fn couple_pair(x: u16) -> u16
+fn couple_bytes(x: u16) -> u16
     ensures { λ r. ⌜ lowBytes 2 r ≡ substituted (two (substituted (lowBytes 2 x))) ⌝ }
 {
     let b = x.to_le_bytes();
@@ -42,15 +42,15 @@ pub(crate) fn couple_all(g: Group<u16>) -> Group<u16>
     ensures { λ r. ⌜ joined 2 r ≡ substituted (parts 2 4 two (substituted (joined 2 g))) ⌝ }
 {
     Group {
-        x0: couple_pair(g.x0),
-        x1: couple_pair(g.x1),
-        x2: couple_pair(g.x2),
-        x3: couple_pair(g.x3),
+        x0: couple_bytes(g.x0),
+        x1: couple_bytes(g.x1),
+        x2: couple_bytes(g.x2),
+        x3: couple_bytes(g.x3),
     }
 }
 
 // The word whose four parts these are, the lowest first.
-pub(crate) fn join_pairs(g: Group<u16>) -> u64
+pub(crate) fn join_narrow(g: Group<u16>) -> u64
     ensures { λ r. ⌜ lowBytes 8 r ≡ joined 2 g ⌝ }
 {
     u64::from(g.x0) + (u64::from(g.x1) << 16) + (u64::from(g.x2) << 32) + (u64::from(g.x3) << 48)
@@ -101,7 +101,7 @@ pub(crate) fn diffuse_all(g: Group<u32>) -> Group<u32>
 }
 
 // The four words of four bytes of `x`, with S at every byte.
-pub(crate) fn substitute_long(x: Long) -> Group<u32>
+pub(crate) fn substitute_wide(x: Long) -> Group<u32>
     ensures { λ r. ⌜ joined 4 r ≡ substituted (longBytes x) ⌝ }
 {
     Group {
@@ -113,7 +113,7 @@ pub(crate) fn substitute_long(x: Long) -> Group<u32>
 }
 
 // The word whose four parts these are, the lowest first.
-pub(crate) fn join_words(g: Group<u32>) -> Long
+pub(crate) fn join_wide(g: Group<u32>) -> Long
     ensures { λ r. ⌜ longBytes r ≡ joined 4 g ⌝ }
 {
     Long {

@@ -30,7 +30,7 @@ fn run(rt: &impl Print) -> Result<(), AnyError> {
         rt,
         "Nirgusel: grade sheets, sealed at the office and opened at the scanner"
     )?;
-    let odd = examples::worked_examples()[12];
+    let odd = examples::worked_examples().sealed[12];
     println!(rt, "worked example: byte 12 is {odd:#04x}")?;
     under(rt, "exchange", &Exchange, &SHORT_KEY)?;
     under(rt, "narrow", &Narrow, &SHORT_KEY)?;

@@ -7,25 +7,25 @@ use Rattle.words.specs.Bytes.{lowBytes}
 use Rattle.words.specs.Laws.{XorLaws}
 use Rattle.words.specs.Linear.{wideFirst}
 
-abbrev pub long : ℕ → ℕ → Long
-long h l = record { hi = h; lo = l }
+abbrev pub ofHalves : ℕ → ℕ → Long
+ofHalves h l = record { hi = h; lo = l }
 
 -- the number of a word, and the word of a number below 2 ^ 128
 abbrev pub number : Long → ℕ
 number x = x .hi * 2 ^ 64 + x .lo
 
 abbrev pub longOf : ℕ → Long
-longOf n = long (n / 2 ^ 64) (n % 2 ^ 64)
+longOf n = ofHalves (n / 2 ^ 64) (n % 2 ^ 64)
 
 -- its sixteen bytes, the lowest first
 abbrev pub longBytes : Long → List ℕ
 longBytes x = lowBytes 8 (x .lo) ++ lowBytes 8 (x .hi)
 
 abbrev pub nothing : Long
-nothing = long 0 0
+nothing = ofHalves 0 0
 
 abbrev pub xorLong : Long → Long → Long
-xorLong x y = long (bitXor (x .hi) (y .hi)) (bitXor (x .lo) (y .lo))
+xorLong x y = ofHalves (bitXor (x .hi) (y .hi)) (bitXor (x .lo) (y .lo))
 
 -- L of the number
 abbrev pub linearLong : Long → Long

@@ -4,5 +4,5 @@ use Rattle.artemia.proofs.layers.couple_all.Needs as need
 
 pub returns : need.returns
 returns c =
-    third-is 2 two (c .args .g) (record { x0 = c .couple-pair .result; x1 = c .couple-pair-2 .result; x2 = c .couple-pair-3 .result; x3 = c .couple-pair-4 .result })
-    (c .couple-pair .ensures) (c .couple-pair-2 .ensures) (c .couple-pair-3 .ensures) (c .couple-pair-4 .ensures)
+    third-is 2 two (c .args .g) (record { x0 = c .couple-bytes .result; x1 = c .couple-bytes-2 .result; x2 = c .couple-bytes-3 .result; x3 = c .couple-bytes-4 .result })
+    (c .couple-bytes .ensures) (c .couple-bytes-2 .ensures) (c .couple-bytes-3 .ensures) (c .couple-bytes-4 .ensures)

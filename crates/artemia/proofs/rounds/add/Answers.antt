@@ -12,7 +12,7 @@ pub returns : need.returns
 unfolding laid constantOf joined
 returns g c =
     let m = g .W·Lane in
-    let n = m .kind .long in
+    let n = m .kind .firstBytes in
     let s = c .args .x in
     let low = c .args .constant in
     let k : Group ℕ = record { x0 = getD low 0 0; x1 = getD low 1 0; x2 = getD low 2 0; x3 = getD low 3 0 } in

@@ -32,7 +32,7 @@ returns g c =
     c .loop .inv ∙ ap (λ n. turns (finished (m .kind)) n (rows (m .held) y)) four-times in
     ap flat done
     ∙ sym (
-    round-is (m .kind) (constantOf (m .kind .long) (c .args .constant)) (laid (m .held) (c .args .x))
+    round-is (m .kind) (constantOf (m .kind .firstBytes) (c .args .constant)) (laid (m .held) (c .args .x))
     (m .held (y .x0)) (m .held (y .x1)) (m .held (y .x2)) (m .held (y .x3)) (l (y .x0)) (l (y .x1)) (l (y .x2)) (l (y .x3))
-    (sym (c .spread-state .ensures ∙ ap (four (m .kind .long) (m .kind .first)) (c .add .ensures)))
+    (sym (c .spread-state .ensures ∙ ap (four (m .kind .firstBytes) (m .kind .first)) (c .add .ensures)))
     )

@@ -9,5 +9,5 @@ use Rattle.artemia.proofs.rounds.rounds.Given as given
 abbrev pub Inv-loop-c : given.InvT-loop-c
 Inv-loop-c g l =
     let m = g .W·Lane in
-    rounds (m .kind) (map (constantOf (m .kind .long)) (drop (l .c-index) (l .constants))) (laid (m .held) (l .state))
-    ≡ rounds (m .kind) (map (constantOf (m .kind .long)) (l .constants)) (laid (m .held) (l .entry .state))
+    rounds (m .kind) (map (constantOf (m .kind .firstBytes)) (drop (l .c-index) (l .constants))) (laid (m .held) (l .state))
+    ≡ rounds (m .kind) (map (constantOf (m .kind .firstBytes)) (l .constants)) (laid (m .held) (l .entry .state))

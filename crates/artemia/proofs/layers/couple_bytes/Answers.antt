@@ -8,7 +8,7 @@ use Rattle.artemia.specs.Artemia.{two, substituted}
 use Rattle.words.specs.Bytes.{lowBytes}
 use Rattle.words.proofs.Conversions.{le-two, of-two}
 use Rattle.artemia.proofs.Rules.{two-is}
-use Rattle.artemia.proofs.layers.couple_pair.Needs as need
+use Rattle.artemia.proofs.layers.couple_bytes.Needs as need
 
 pub returns : need.returns
 unfolding lowBytes

@@ -5,7 +5,7 @@ use borrow.Author.Needs.{needs}
 use Rattle.artemia.specs.Artemia.{joined}
 use Rattle.words.specs.Bytes.{lowBytes}
 use Rattle.words.proofs.Conversions.{of-words}
-use Rattle.artemia.proofs.layers.join_words.Needs as need
+use Rattle.artemia.proofs.layers.join_wide.Needs as need
 
 pub returns : need.returns
 unfolding joined

@@ -2,7 +2,7 @@ use Prim.Native.Nat.{_<_, _^_}
 use native.Mathlib.Omega.{arith}
 use borrow.Author.Needs.{needs}
 use Rattle.artemia.proofs.Rules.{of-pairs}
-use Rattle.artemia.proofs.layers.join_pairs.Needs as need
+use Rattle.artemia.proofs.layers.join_narrow.Needs as need
 
 pub returns : need.returns
 returns c =

@@ -9,7 +9,7 @@ use Rattle.words.specs.Bytes.{lowBytes}
 use Rattle.words.proofs.Conversions.{of-words}
 use Rattle.words.proofs.Bytes.{all-four}
 use Rattle.artemia.proofs.Parts.{sub-four}
-use Rattle.artemia.proofs.layers.substitute_long.Needs as need
+use Rattle.artemia.proofs.layers.substitute_wide.Needs as need
 
 pub returns : need.returns
 unfolding joined

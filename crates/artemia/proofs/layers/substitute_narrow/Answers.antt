@@ -6,7 +6,7 @@ use Rattle.artemia.specs.Artemia.{joined}
 use Rattle.words.specs.Bytes.{lowBytes}
 use Rattle.words.proofs.Conversions.{le-eight, of-two}
 use Rattle.words.proofs.Bytes.{all-four}
-use Rattle.artemia.proofs.layers.substitute_word.Needs as need
+use Rattle.artemia.proofs.layers.substitute_narrow.Needs as need
 
 pub returns : need.returns
 unfolding joined lowBytes
