@@ -18,6 +18,7 @@ use mixers::WideMixer;
 use mode::seal;
 
 // What the examples that are run gave.
+#[derive(Clone, Copy)]
 pub struct Worked {
     // ciphertext and tag of the empty message under the exchange
     pub sealed: [u8; 32],
