@@ -1,4 +1,6 @@
 // The two permutations of Artemia, on states in machine words.
+#![tactic(auto)]
+
 ghost use Rattle.std.specs.Prelude.{◌≡◌};
 ghost use Rattle.words.specs.Bytes.{low_bytes};
 ghost use Rattle.words.specs.Long.{long_bytes};

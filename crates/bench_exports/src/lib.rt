@@ -1,4 +1,6 @@
 // Mixing, sealing and opening for C to call. The speed harness in bench/ links it.
+#![tactic(auto)]
+
 mod answer;
 mod narrow;
 mod wide;

@@ -1,4 +1,6 @@
 // Worked examples of the definitions, all of them in one contract.
+#![tactic(auto)]
+
 ghost use Rattle.std.specs.Prelude.{◌≡◌, [], ◌∷◌, replicate};
 ghost use Rattle.mixers.specs.Exchange.{exchanged};
 ghost use Rattle.mixers.specs.View.{view};

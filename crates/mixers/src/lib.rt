@@ -1,4 +1,6 @@
 // Mixers: a block length, a mark byte and one fixed function on states of two blocks.
+#![tactic(auto)]
+
 mod block;
 mod exchange;
 mod mixer;

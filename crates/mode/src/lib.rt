@@ -1,4 +1,6 @@
 // Sealing and opening byte strings under any mixer, with associated data: the mode JHAE. docs/CIPHER.md has it in words.
+#![tactic(auto)]
+
 mod bytes;
 mod chain;
 mod fault;

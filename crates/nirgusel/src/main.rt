@@ -1,4 +1,6 @@
 // Seals the text of a grade sheet under each of the three mixers, opens it again, and refuses a copy with a damaged tag.
+#![tactic(auto)]
+
 mod bench;
 
 use anyhow::anyhow;

@@ -1,5 +1,7 @@
 // A second implementation of the mixers and the mode, plain and slow, on lists of bytes. It shares no code with the
 // proved library, which is compared with it. Of this crate only safety is proved, not what it computes.
+#![tactic(auto)]
+
 mod bytes;
 mod field;
 mod jhae;

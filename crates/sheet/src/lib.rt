@@ -1,4 +1,6 @@
 // Grade sheets and their text, one to one. docs/SHEET.md has them in words.
+#![tactic(auto)]
+
 mod column;
 mod fault;
 mod limits;

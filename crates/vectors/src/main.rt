@@ -1,5 +1,7 @@
 // Runs the proved library and the plain second implementation side by side, and prints what was compared. Where they
 // differ it says in which case, and ends with an error.
+#![tactic(auto)]
+
 mod answer;
 mod bits;
 mod bytes;

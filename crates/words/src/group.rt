@@ -15,7 +15,7 @@ pub struct Group<W> {
 
 // Turns X0 to X3 into Y0 to Y3.
 pub fn diffuse<W: Word>(x: Group<W>) -> Group<W>
-    ensures { result ≡ diffused plus linear_map x }
+    ensures { result ≡ diffused W.plus W.linear_map x }
 {
     let y0 = x.x0.xor(x.x2).xor(x.x3).xor(x.x1.xor(x.x3).linear());
     let y1 = x.x1.xor(x.x3).xor(y0).xor(x.x2.xor(y0).linear());

@@ -1,4 +1,6 @@
 // Words of the cipher: their exclusive or and linear map, the diffusion of four words and of two bytes, and the S-box.
+#![tactic(auto)]
+
 mod group;
 mod long;
 mod pair;
