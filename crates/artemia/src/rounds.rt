@@ -18,7 +18,7 @@ pub(crate) const CONSTANTS: [[u64; 4]; 6] = [
 
 // One round for each constant.
 pub(crate) fn rounds<W: Lane>(x: Group<W>, constants: &[[u64; 4]]) -> Group<W>
-    ensures { laid held result ≡ rounds_of kind (map (constant_of kind.first_bytes) constants.now) (laid held x) }
+    ensures { laid W.held result ≡ rounds_of W.kind (map (constant_of W.kind.first_bytes) constants.now) (laid W.held x) }
 {
     let mut state = x;
     for c in constants {
@@ -28,7 +28,7 @@ pub(crate) fn rounds<W: Lane>(x: Group<W>, constants: &[[u64; 4]]) -> Group<W>
 }
 
 fn round<W: Lane>(x: Group<W>, constant: [u64; 4]) -> Group<W>
-    ensures { laid held result ≡ round_of kind (constant_of kind.first_bytes constant) (laid held x) }
+    ensures { laid W.held result ≡ round_of W.kind (constant_of W.kind.first_bytes constant) (laid W.held x) }
 {
     let mut state = W::spread(add(x, constant));
     // Each word is finished in its turn. With one call of `finish` the compiler puts its code in place.
@@ -45,7 +45,7 @@ fn round<W: Lane>(x: Group<W>, constant: [u64; 4]) -> Group<W>
 
 // Exclusive or with a constant.
 fn add<W: Lane>(x: Group<W>, constant: [u64; 4]) -> Group<W>
-    ensures { laid held result ≡ added (constant_of kind.first_bytes constant) (laid held x) }
+    ensures { laid W.held result ≡ added (constant_of W.kind.first_bytes constant) (laid W.held x) }
 {
     Group {
         x0: x.x0.add_low(constant[0]),

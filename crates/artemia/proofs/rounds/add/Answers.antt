@@ -14,7 +14,7 @@ returns g c =
     let s = c.args.x in
     let low = c.args.constant in
     let k : Group ℕ = record { x0 = get_or low 0 0; x1 = get_or low 1 0; x2 = get_or low 2 0; x3 = get_or low 3 0 } in
-    all_four c.add-low.ensures c.add-low-2.ensures c.add-low-3.ensures c.add-low-4.ensures
+    all_four c.add_low.ensures c.add_low-2.ensures c.add_low-3.ensures c.add_low-4.ensures
     ∙ sym (laid-xor m.laws s k)
     ∙ sym (
     added_is (laid m.held s) (joined n k) (laid-sized m.laws s ∙ sym (laid-sized (numbers n) k)) (laid-bytes m.laws s) (laid-bytes (numbers n) k)

@@ -14,4 +14,4 @@ returns c =
     let h5 : get_or s (i + 5) 0 < 256 = search rules in
     let h6 : get_or s (i + 6) 0 < 256 = search rules in
     let h7 : get_or s (i + 7) 0 < 256 = search rules in
-    of_eight c.from-le-bytes.result _ _ _ _ _ _ _ _ h0 h1 h2 h3 h4 h5 h6 h7 c.from-le-bytes.ensures ∙ sym (window i s c.requires)
+    of_eight c.from_le_bytes.result _ _ _ _ _ _ _ _ h0 h1 h2 h3 h4 h5 h6 h7 c.from_le_bytes.ensures ∙ sym (window i s c.requires)

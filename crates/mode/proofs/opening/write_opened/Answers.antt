@@ -9,11 +9,11 @@ begin-chain-requires g c =
     let le : g.row.B ≤ 32 = few g.row.B (g.M.Mixer.laws c.args.mixer.now).width in
     (search rules, c.requires.0)
 
-pub nonzero-div-cipher : goal.nonzero-div-cipher
-nonzero-div-cipher g c = some g.row.B (g.M.Mixer.laws c.args.mixer.now).width
+pub nonzero_div-cipher : goal.nonzero_div-cipher
+nonzero_div-cipher g c = some g.row.B (g.M.Mixer.laws c.args.mixer.now).width
 
-pub turn-all-requires : goal.turn-all-requires
-turn-all-requires g c =
+pub turn_all-requires : goal.turn_all-requires
+turn_all-requires g c =
     let le : g.row.B ≤ 32 = few g.row.B (g.M.Mixer.laws c.args.mixer.now).width in
     let n = length c.args.cipher.now in
     let front : n / g.row.B * g.row.B ≤ n = div-mul-le_self n g.row.B in
@@ -27,6 +27,6 @@ tag-requires g c =
 pub returns : goal.returns
 returns g c =
     let b = opened_in_place (g.M.Mixer.mixing c.args.mixer.now) g.row.B c.args.key.now c.args.nonce.now c.args.ad.now c.args.cipher.now
-    (view c.begin-chain.result.state) (view c.turn-all.new.self.state) c.begin-chain.result.prev.bytes c.turn-all.new.self.prev.bytes c.tag.result.bytes c.args.text.now c.put.new.out c.turn-all.new.text
-    c.begin-chain.ensures.state c.begin-chain.ensures.prev c.put.ensures c.turn-all.ensures.out c.turn-all.auto.text c.turn-all.ensures.state c.turn-all.ensures.prev c.tag.ensures in
+    (view c.begin-chain.result.state) (view c.turn_all.new.self.state) c.begin-chain.result.prev.bytes c.turn_all.new.self.prev.bytes c.tag.result.bytes c.args.text.now c.put.new.out c.turn_all.new.text
+    c.begin-chain.ensures.state c.begin-chain.ensures.prev c.put.ensures c.turn_all.ensures.out c.turn_all.auto.text c.turn_all.ensures.state c.turn_all.ensures.prev c.tag.ensures in
     record { tag = b.tag_is; text = b.text_is }

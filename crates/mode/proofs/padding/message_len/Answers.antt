@@ -14,10 +14,10 @@ returns-then-end-lt-TRAILER g c =
       | then-end-lt-TRAILER-via-else-end-lt-TRAILER+then-end w ↦ omega (arith, E.high, w.if-end.true)
     ])
 
-pub returns-then-text-cipher-len : goal.returns-then-text-cipher-len
-returns-then-text-cipher-len g c =
+pub returns-then-text-cipher_len : goal.returns-then-text-cipher_len
+returns-then-text-cipher_len g c =
     refused g.row.B c.args.nonce c.args.ad c.requires.0 c.requires.1.0 c.requires.1.1 c.args.text.now c.reach-end.result c.reach-end.ensures.zeros c.reach-end.ensures.last (λ E.
-    c.if-text-cipher-len.true (E.size ∙ sym c.cipher-len.ensures))
+    c.if-text-cipher_len.true (E.size ∙ sym c.cipher_len.ensures))
 
 pub returns-then-same : goal.returns-then-same
 returns-then-same g c =
@@ -26,7 +26,7 @@ returns-then-same g c =
     accepted g.row.B c.args.nonce c.args.ad c.requires.0 c.requires.1.0 c.requires.1.1 c.args.text.now r c.reach-end.ensures.zeros c.reach-end.ensures.within (record {
       low = omega arith;
       high = omega arith;
-      size = c.if-text-cipher-len.false ∙ c.cipher-len.ensures;
+      size = c.if-text-cipher_len.false ∙ c.cipher_len.ensures;
       last = sym c.trailer.ensures ∙ (bytes_eq-Decides c.trailer.result part).0 (sym c.if-same.ensures);
     })
 

@@ -9,4 +9,4 @@ returns g c =
     let m = length M in
     let o₂ = c.put-2.new.out in
     padded_in_place g.row.B (8 * c.args.nonce) (8 * c.args.ad) M c.trailer.result c.args.out.now c.put.new.out o₂ c.zero.new.out c.trailer.ensures (blocks_hold g.row.B (m + 13) (some g.row.B c.requires.0)).0
-    c.put.ensures c.put-2.ensures (c.zero.ensures ∙ ap (λ k. take (m + 13) o₂ ++ (replicate (k - (m + 13)) 0 ++ drop k o₂)) c.cipher-len.ensures)
+    c.put.ensures c.put-2.ensures (c.zero.ensures ∙ ap (λ k. take (m + 13) o₂ ++ (replicate (k - (m + 13)) 0 ++ drop k o₂)) c.cipher_len.ensures)

@@ -5,4 +5,4 @@ use Rattle.mode.proofs.padding.trailer.Goals as goal
 
 pub returns : goal.returns
 unfolding trailer
-returns g c = c.low-bytes.ensures ∙ ap (low_bytes 13) c.trailer-number.ensures
+returns g c = c.low_bytes.ensures ∙ ap (low_bytes 13) c.trailer_number.ensures

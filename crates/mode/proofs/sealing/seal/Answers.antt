@@ -4,8 +4,8 @@ use Rattle.mode.proofs.Faith.{opens-again}
 use Rattle.mode.proofs.Sealed.{sealable}
 use Rattle.mode.proofs.sealing.seal.Goals as goal
 
-pub seal-lengths-requires : goal.seal-lengths-requires
-seal-lengths-requires g c = (g.M.Mixer.laws c.args.mixer.now).width
+pub seal_lengths-requires : goal.seal_lengths-requires
+seal_lengths-requires g c = (g.M.Mixer.laws c.args.mixer.now).width
 
 pub returns : goal.returns
 returns g c =
@@ -16,11 +16,11 @@ returns g c =
     let A = c.args.ad.now in
     let M = c.args.message.now in
     let xs = c.args.out.now in
-    let l = c.in-ok-lengths.lengths in
-    let ok = c.in-ok-lengths.ensures in
+    let l = c.in_ok-lengths.lengths in
+    let ok = c.in_ok-lengths.ensures in
     let able = sealable g.row.B K N A M xs l.0 l.1 ok in
     record {
       answer = ok;
-      buffer = c.write-sealed.ensures ∙ ap (λ r. written r (cipher_text f g.row.B K N A M ++ cipher_tag f g.row.B K N A M) xs) ok;
+      buffer = c.write_sealed.ensures ∙ ap (λ r. written r (cipher_text f g.row.B K N A M ++ cipher_tag f g.row.B K N A M) xs) ok;
       again = opens-again f g.row.B (g.M.Mixer.mark_byte m) (g.M.Mixer.laws m) K N A able.admitted M l able.limit able.cipher able.both;
     }

@@ -5,14 +5,14 @@ use Rattle.sheet.specs.Faults.{through}
 use Rattle.sheet.proofs.ColumnSteps.{behind_spaces}
 use Rattle.sheet.proofs.column.read_column.Goals as goal
 
-pub returns-in-err-n : goal.returns-in-err-n
-returns-in-err-n c =
+pub returns-in_err-n : goal.returns-in_err-n
+returns-in_err-n c =
     let p = err_from_is_err_and c.from-residual.result c.from-residual.ensures.1 in
     let test = between c.args.place c.args.least c.args.most in
     record {
       value = p.1 ∙ ap Err p.2
-          ∙ sym (ap (λ r. through r test) c.in-err-n.was)
-          ∙ behind_spaces (read_number c.args.place) test c.args.bytes.now c.spaces-from.result c.read-number.result c.spaces-from.ensures.rest c.read-number.ensures.value;
+          ∙ sym (ap (λ r. through r test) c.in_err-n.was)
+          ∙ behind_spaces (read_number c.args.place) test c.args.bytes.now c.spaces-from.result c.read_number.result c.spaces-from.ensures.rest c.read_number.ensures.value;
       bounds = IfOk-from_err c.from-residual.result _ c.from-residual.ensures.0;
     }
 
@@ -21,7 +21,7 @@ returns c =
     let test = between c.args.place c.args.least c.args.most in
     record {
       value = c.within.ensures.value
-          ∙ sym (ap (λ r. through r test) c.in-ok-n.was)
-          ∙ behind_spaces (read_number c.args.place) test c.args.bytes.now c.spaces-from.result c.read-number.result c.spaces-from.ensures.rest c.read-number.ensures.value;
+          ∙ sym (ap (λ r. through r test) c.in_ok-n.was)
+          ∙ behind_spaces (read_number c.args.place) test c.args.bytes.now c.spaces-from.result c.read_number.result c.spaces-from.ensures.rest c.read_number.ensures.value;
       bounds = c.within.ensures.bounds;
     }

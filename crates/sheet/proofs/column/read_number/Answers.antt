@@ -4,27 +4,27 @@ use Rattle.sheet.proofs.ColumnSteps.{digit_here, digits_end, read_here, read_end
 use Rattle.sheet.proofs.column.read_number.Goals as goal
 use Rattle.sheet.proofs.column.read_number.Goals.{else-digits-ne1-via-then-digits-ne1+else-first-eq48, else-digits-ne1-via-else-digits-ne1}
 
-pub overflow-mul-n : goal.overflow-mul-n
-overflow-mul-n c = omega (arith, small_power c.loop-d.d-index (omega arith), c.loop-d.invariant.0)
+pub overflow_mul-n : goal.overflow_mul-n
+overflow_mul-n c = omega (arith, small_power c.loop-d.d-index (omega arith), c.loop-d.invariant.0)
 
-pub overflow-add-n : goal.overflow-add-n
-overflow-add-n c = omega (arith, small_power c.loop-d.d-index (omega arith), c.loop-d.invariant.0, c.if-not-is-ascii-digit.ensures.cases)
+pub overflow_add-n : goal.overflow_add-n
+overflow_add-n c = omega (arith, small_power c.loop-d.d-index (omega arith), c.loop-d.invariant.0, c.if-not-is_ascii_digit.ensures.cases)
 
 pub loop-d-preserved : goal.loop-d-preserved
 loop-d-preserved c =
     let ds = c.args.digits.now in
     let i = c.loop-d.d-index in
-    let e = c.if-not-is-ascii-digit.ensures in (
+    let e = c.if-not-is_ascii_digit.ensures in (
       omega (arith, pow-add 10 i 1, c.loop-d.invariant.0, e.cases),
       sym (read_here ds i c.loop-d.n (omega arith)) ∙ c.loop-d.invariant.1,
       sym (digit_here ds i (omega arith) ∙ ap (λ t. t && all_ascii_digits (drop (i + 1) ds)) (sym e.value)) ∙ c.loop-d.invariant.2,
     )
 
-pub returns-then-not-is-ascii-digit : goal.returns-then-not-is-ascii-digit
-returns-then-not-is-ascii-digit c =
+pub returns-then-not-is_ascii_digit : goal.returns-then-not-is_ascii_digit
+returns-then-not-is_ascii_digit c =
     let ds = c.args.digits.now in
     let i = c.loop-d.d-index in
-    let e = c.if-not-is-ascii-digit.ensures in
+    let e = c.if-not-is_ascii_digit.ensures in
     record { value = no_digit c.args.place ds (sym c.loop-d.invariant.2 ∙ digit_here ds i (omega arith) ∙ ap (λ t. t && all_ascii_digits (drop (i + 1) ds)) (sym e.value)); small = tt }
 
 some : (c : goal.After-loop-d) → 0 < length c.args.digits.now

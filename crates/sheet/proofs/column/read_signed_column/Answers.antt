@@ -6,14 +6,14 @@ use Rattle.sheet.specs.Faults.{through}
 use Rattle.sheet.proofs.ColumnSteps.{behind_spaces}
 use Rattle.sheet.proofs.column.read_signed_column.Goals as goal
 
-pub returns-in-err-n : goal.returns-in-err-n
-returns-in-err-n c =
+pub returns-in_err-n : goal.returns-in_err-n
+returns-in_err-n c =
     let p = err_from_is_err_and c.from-residual.result c.from-residual.ensures.1 in
     let test = between_signed c.args.place c.args.least c.args.most in
     record {
       value = p.1 ∙ ap Err p.2
-          ∙ sym (ap (λ r. through r test) c.in-err-n.was)
-          ∙ behind_spaces (read_signed c.args.place) test c.args.bytes.now c.spaces-from.result c.read-signed-number.result c.spaces-from.ensures.rest c.read-signed-number.ensures;
+          ∙ sym (ap (λ r. through r test) c.in_err-n.was)
+          ∙ behind_spaces (read_signed c.args.place) test c.args.bytes.now c.spaces-from.result c.read_signed_number.result c.spaces-from.ensures.rest c.read_signed_number.ensures;
       bounds = IfOk-from_err c.from-residual.result _ c.from-residual.ensures.0;
     }
 
@@ -21,20 +21,20 @@ pub returns : goal.returns
 returns c =
     let least = c.args.least in
     let most = c.args.most in
-    let n = c.in-ok-n.n in
+    let n = c.in_ok-n.n in
     let f : SFits w32 n = search rules in
     let low : to_z w32 (of_z w32 least) ≡ least = to_z-of_z w32 least c.ranges.least in
     let high : to_z w32 (of_z w32 most) ≡ most = to_z-of_z w32 most c.ranges.most in
     let same : to_z w32 (of_z w32 n) ≡ n = to_z-of_z w32 n f in
     let test = between_signed c.args.place least most in
-    let Q : ℤ → Type 0 = λ x. IfOk c.within-signed.result (λ m. (x ≤ℤ m) × (m ≤ℤ to_z w32 (of_z w32 most))) in
-    let R : ℤ → Type 0 = λ x. IfOk c.within-signed.result (λ m. (least ≤ℤ m) × (m ≤ℤ x)) in
+    let Q : ℤ → Type 0 = λ x. IfOk c.within_signed.result (λ m. (x ≤ℤ m) × (m ≤ℤ to_z w32 (of_z w32 most))) in
+    let R : ℤ → Type 0 = λ x. IfOk c.within_signed.result (λ m. (least ≤ℤ m) × (m ≤ℤ x)) in
     record {
-      value = c.within-signed.ensures.value
+      value = c.within_signed.ensures.value
           ∙ ap (λ x. between_signed c.args.place x (to_z w32 (of_z w32 most)) (to_z w32 (of_z w32 n))) low
           ∙ ap (λ x. between_signed c.args.place least x (to_z w32 (of_z w32 n))) high
           ∙ ap test same
-          ∙ sym (ap (λ r. through r test) c.in-ok-n.was)
-          ∙ behind_spaces (read_signed c.args.place) test c.args.bytes.now c.spaces-from.result c.read-signed-number.result c.spaces-from.ensures.rest c.read-signed-number.ensures;
-      bounds = subst R high (subst Q low c.within-signed.ensures.bounds);
+          ∙ sym (ap (λ r. through r test) c.in_ok-n.was)
+          ∙ behind_spaces (read_signed c.args.place) test c.args.bytes.now c.spaces-from.result c.read_signed_number.result c.spaces-from.ensures.rest c.read_signed_number.ensures;
+      bounds = subst R high (subst Q low c.within_signed.ensures.bounds);
     }

@@ -10,16 +10,16 @@ use Rattle.sheet.proofs.ColumnSigns.{signed_below, signed_above, put_minus}
 use Rattle.sheet.proofs.column.write_signed_column.Goals as goal
 use Rattle.sheet.proofs.column.write_signed_column.Goals.{then-z-lt0, else-z-lt0}
 
-same : (c : goal.After-unsigned-abs) → c.unsigned-abs.result ≡ nat_abs c.args.z
-same c = c.unsigned-abs.ensures.value ∙ ap nat_abs (to_z-of_z w32 c.args.z c.ranges.z)
+same : (c : goal.After-unsigned_abs) → c.unsigned_abs.result ≡ nat_abs c.args.z
+same c = c.unsigned_abs.ensures.value ∙ ap nat_abs (to_z-of_z w32 c.args.z c.ranges.z)
 
-pub unsigned-abs-requires : goal.unsigned-abs-requires
-unsigned-abs-requires c = tt
+pub unsigned_abs-requires : goal.unsigned_abs-requires
+unsigned_abs-requires c = tt
 
-pub write-digits-from-requires : goal.write-digits-from-requires
-write-digits-from-requires c =
+pub write_digits-from-requires : goal.write_digits-from-requires
+write_digits-from-requires c =
     let w = length c.args.out.now in
-    let v = c.unsigned-abs.result in
+    let v = c.unsigned_abs.result in
     let e = same c in
     let h : v < 10 ^ (w - 1) = omega (arith, abs_mag c.args.z) in
     (omega arith, power_up v w (omega arith) h)
@@ -28,14 +28,14 @@ write-digits-from-requires c =
 room : (w v from last : ℕ) → 1 < w → v < 10 ^ (w - 1) → v < 2 ^ 64 → last ≡ w → last - from ≡ length (decimal v) → from < last → 1 ≤ from
 room w v from last some h f e d within = omega (arith, length-decimal-le (w - 1) v (omega arith) h f)
 
-pub overflow-sub-from : goal.overflow-sub-from
-overflow-sub-from c =
+pub overflow_sub-from : goal.overflow_sub-from
+overflow_sub-from c =
     let w = length c.args.out.now in
-    let v = c.unsigned-abs.result in
-    let e : v ≡ nat_abs c.args.z = c.unsigned-abs.ensures.value ∙ ap nat_abs (to_z-of_z w32 c.args.z c.ranges.z) in
+    let v = c.unsigned_abs.result in
+    let e : v ≡ nat_abs c.args.z = c.unsigned_abs.ensures.value ∙ ap nat_abs (to_z-of_z w32 c.args.z c.ranges.z) in
     let h : v < 10 ^ (w - 1) = omega (arith, abs_mag c.args.z) in
-    room w v c.write-digits-from.result (length c.write-digits-from.new.out) c.requires.0 h (omega arith) c.write-digits-from.auto.out
-    (sym (length-drop c.write-digits-from.result c.write-digits-from.new.out) ∙ ap length c.write-digits-from.ensures.digits) c.write-digits-from.ensures.within
+    room w v c.write_digits-from.result (length c.write_digits-from.new.out) c.requires.0 h (omega arith) c.write_digits-from.auto.out
+    (sym (length-drop c.write_digits-from.result c.write_digits-from.new.out) ∙ ap length c.write_digits-from.ensures.digits) c.write_digits-from.ensures.within
 
 pub bounds-out-from : goal.bounds-out-from
 bounds-out-from c = omega arith
@@ -50,23 +50,23 @@ blank-requires c =
 pub returns : goal.returns
 returns c =
     let w = length c.args.out.now in
-    let d = c.write-digits-from.new.out in
-    let i = c.write-digits-from.result in
+    let d = c.write_digits-from.new.out in
+    let i = c.write_digits-from.result in
     let z = c.args.z in
     let fit = to_z-of_z w32 z c.ranges.z in
-    let v : c.unsigned-abs.result ≡ nat_abs z = c.unsigned-abs.ensures.value ∙ ap nat_abs fit in
-    let h : c.unsigned-abs.result < 10 ^ (w - 1) = omega (arith, abs_mag z) in
-    let wide : length c.if-z-lt0.out ≡ w = c.if-z-lt0.auto.out ∙ c.write-digits-from.auto.out in
-    let digits : drop i d ≡ decimal (nat_abs z) = c.write-digits-from.ensures.digits ∙ ap decimal v in
+    let v : c.unsigned_abs.result ≡ nat_abs z = c.unsigned_abs.ensures.value ∙ ap nat_abs fit in
+    let h : c.unsigned_abs.result < 10 ^ (w - 1) = omega (arith, abs_mag z) in
+    let wide : length c.if-z-lt0.out ≡ w = c.if-z-lt0.auto.out ∙ c.write_digits-from.auto.out in
+    let digits : drop i d ≡ decimal (nat_abs z) = c.write_digits-from.ensures.digits ∙ ap decimal v in
     let some : 1 ≤ i =
-    room w c.unsigned-abs.result i (length d) c.requires.0 h (omega arith) c.write-digits-from.auto.out
-    (sym (length-drop i d) ∙ ap length c.write-digits-from.ensures.digits) c.write-digits-from.ensures.within in
+    room w c.unsigned_abs.result i (length d) c.requires.0 h (omega arith) c.write_digits-from.auto.out
+    (sym (length-drop i d) ∙ ap length c.write_digits-from.ensures.digits) c.write_digits-from.ensures.within in
     let e : drop c.if-z-lt0.from c.if-z-lt0.out ≡ signed_decimal z =
     elim c.if-z-lt0.branch [
       | then-z-lt0 w ↦
           ap (λ j. drop j c.if-z-lt0.out) w.from-is
           ∙ ap (λ x. drop (i - 1) x) w.out-is
-          ∙ put_minus d i (decimal (nat_abs z)) some c.write-digits-from.ensures.within digits
+          ∙ put_minus d i (decimal (nat_abs z)) some c.write_digits-from.ensures.within digits
           ∙ sym (signed_below z (sym (ap (λ x. lt_z x (pos 0)) fit) ∙ w.if-z-lt0.true))
       | else-z-lt0 w ↦
           ap (λ j. drop j c.if-z-lt0.out) w.from-is

@@ -6,9 +6,9 @@ use Rattle.mixers.proofs.narrow.NarrowMixer16.mix.Goals as goal
 
 pub returns : goal.returns
 returns c =
-    let y = c.permute-narrow-y.result in
-    let e = c.permute-narrow-y.ensures ∙ ap (permuted narrow) c.load.ensures in
+    let y = c.permute_narrow-y.result in
+    let e = c.permute_narrow-y.ensures ∙ ap (permuted narrow) c.load.ensures in
     let cut = in_halves word_held y _ e in
-    let upper = c.block-of-words-state.ensures ∙ cut.0 in
-    let lower = c.block-of-words-state-2.ensures ∙ cut.1 in
+    let upper = c.block_of_words-state.ensures ∙ cut.0 in
+    let lower = c.block_of_words-state-2.ensures ∙ cut.1 in
     cc

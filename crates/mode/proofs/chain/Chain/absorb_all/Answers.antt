@@ -5,8 +5,8 @@ use Rattle.mode.specs.Steps.{seal_step}
 use Rattle.mode.proofs.Loops.{fits, reads_none, reads_more, reads_all}
 use Rattle.mode.proofs.chain.Chain.absorb_all.Goals as goal
 
-pub slice-bounds-of-end : goal.slice-bounds-of-end
-slice-bounds-of-end g c = fits _ _ g.row.B _ c.loop-i-test.true (omega arith)
+pub slice_bounds-of-end : goal.slice_bounds-of-end
+slice_bounds-of-end g c = fits _ _ g.row.B _ c.loop-i-test.true (omega arith)
 
 pub loop-i-init : goal.loop-i-init
 loop-i-init g c = reads_none _ _ _ _ _ _ c.args.self.now.prev.sized

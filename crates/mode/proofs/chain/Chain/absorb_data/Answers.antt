@@ -6,16 +6,16 @@ use Rattle.mode.proofs.Splits.{last_of, data_state_lem, data_prev_lem}
 use Rattle.mode.proofs.Widths.{some, few}
 use Rattle.mode.proofs.chain.Chain.absorb_data.Goals as goal
 
-pub nonzero-div-whole : goal.nonzero-div-whole
-nonzero-div-whole g c = omega (arith, some g.row.B (g.M.Mixer.laws c.args.mixer.now).width)
+pub nonzero_div-whole : goal.nonzero_div-whole
+nonzero_div-whole g c = omega (arith, some g.row.B (g.M.Mixer.laws c.args.mixer.now).width)
 
-pub absorb-all-requires : goal.absorb-all-requires
-absorb-all-requires g c =
+pub absorb_all-requires : goal.absorb_all-requires
+absorb_all-requires g c =
     let le : g.row.B ≤ 32 = few g.row.B (g.M.Mixer.laws c.args.mixer.now).width in
     (search rules, div-mul-le_self (length c.args.ad.now) g.row.B)
 
-pub overflow-mul-whole : goal.overflow-mul-whole
-overflow-mul-whole g c =
+pub overflow_mul-whole : goal.overflow_mul-whole
+overflow_mul-whole g c =
     let A = c.args.ad.now in
     let le : length A / g.row.B * g.row.B ≤ length A = div-mul-le_self (length A) g.row.B in
     search rules
@@ -23,8 +23,8 @@ overflow-mul-whole g c =
 pub tail-requires : goal.tail-requires
 tail-requires g c = div-mul-le_self (length c.args.ad.now) g.row.B
 
-pub pad-rest-last-requires : goal.pad-rest-last-requires
-pad-rest-last-requires g c =
+pub pad_rest-last-requires : goal.pad_rest-last-requires
+pad_rest-last-requires g c =
     let B = g.row.B in
     let A = c.args.ad.now in
     let w = (g.M.Mixer.laws c.args.mixer.now).width in
@@ -42,8 +42,8 @@ returns-then-ad-gt0 g c =
     let s = view c.args.self.now.state in
     let p = c.args.self.now.prev.bytes in
     let q = length A / B in
-    let last : c.pad-rest-last.result.bytes ≡ last_of B (drop (q * B) A) = c.pad-rest-last.ensures ∙ ap (last_of B) c.tail.ensures in
+    let last : c.pad_rest-last.result.bytes ≡ last_of B (drop (q * B) A) = c.pad_rest-last.ensures ∙ ap (last_of B) c.tail.ensures in
     record {
-      state = c.absorb.ensures.state ∙ ap (λ x. (seal_step f x c.absorb-all.new.self.prev.bytes c.pad-rest-last.result.bytes).state) c.absorb-all.ensures.state ∙ ap (λ x. (seal_step f (run_state (seal_step f) B q s p A) x c.pad-rest-last.result.bytes).state) c.absorb-all.ensures.prev ∙ ap (λ x. (seal_step f (run_state (seal_step f) B q s p A) (run_prev (seal_step f) B q s p A) x).state) last ∙ data_state_lem (seal_step f) B A h c.if-ad-gt0.true s p;
+      state = c.absorb.ensures.state ∙ ap (λ x. (seal_step f x c.absorb_all.new.self.prev.bytes c.pad_rest-last.result.bytes).state) c.absorb_all.ensures.state ∙ ap (λ x. (seal_step f (run_state (seal_step f) B q s p A) x c.pad_rest-last.result.bytes).state) c.absorb_all.ensures.prev ∙ ap (λ x. (seal_step f (run_state (seal_step f) B q s p A) (run_prev (seal_step f) B q s p A) x).state) last ∙ data_state_lem (seal_step f) B A h c.if-ad-gt0.true s p;
       prev = c.absorb.ensures.prev ∙ last ∙ data_prev_lem (seal_step f) B A h c.if-ad-gt0.true s p;
     }

@@ -18,6 +18,6 @@ returns g c =
     let first : c.of.result.bytes ≡ pad_nonce B N = c.of.ensures ∙ block_of_short B N c.requires.nonce in
     let key : l ≡ K = c.of-2.ensures ∙ block_of_whole B K c.requires.key in
     record {
-      state = c.absorb-data.ensures.state ∙ ap (λ x. all_state (seal_step f) B (halves x l) x (pad_data B A)) first ∙ ap (λ x. all_state (seal_step f) B (halves (pad_nonce B N) x) (pad_nonce B N) (pad_data B A)) key;
-      prev = c.absorb-data.ensures.prev ∙ ap (λ x. all_prev (seal_step f) B (halves x l) x (pad_data B A)) first ∙ ap (λ x. all_prev (seal_step f) B (halves (pad_nonce B N) x) (pad_nonce B N) (pad_data B A)) key;
+      state = c.absorb_data.ensures.state ∙ ap (λ x. all_state (seal_step f) B (halves x l) x (pad_data B A)) first ∙ ap (λ x. all_state (seal_step f) B (halves (pad_nonce B N) x) (pad_nonce B N) (pad_data B A)) key;
+      prev = c.absorb_data.ensures.prev ∙ ap (λ x. all_prev (seal_step f) B (halves x l) x (pad_data B A)) first ∙ ap (λ x. all_prev (seal_step f) B (halves (pad_nonce B N) x) (pad_nonce B N) (pad_data B A)) key;
     }

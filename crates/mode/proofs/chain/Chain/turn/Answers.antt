@@ -15,7 +15,7 @@ returns-in-Seal g c =
     rw way (record {
       state = state;
       prev = c.absorb.ensures.prev ∙ b;
-      block = c.copy-from-slice.ensures.after ∙ ap (λ h. h.upper) state;
+      block = c.copy_from_slice.ensures.after ∙ ap (λ h. h.upper) state;
     })
 
 pub returns-in-Open : goal.returns-in-Open
@@ -29,5 +29,5 @@ returns-in-Open g c =
     rw way (record {
       state = c.recover.ensures.state ∙ ap (λ x. (open_step f s p x).state) b;
       prev = prev;
-      block = c.copy-from-slice-in-Open.ensures.after ∙ prev;
+      block = c.copy_from_slice-in-Open.ensures.after ∙ prev;
     })

@@ -2,8 +2,8 @@ use Rattle.std.proofs.Common.{arith}
 use Rattle.mode.proofs.Loops.{fits, runs_none, runs_more, runs_all}
 use Rattle.mode.proofs.chain.Chain.turn_all.Goals as goal
 
-pub slice-bounds-turn-end : goal.slice-bounds-turn-end
-slice-bounds-turn-end g c = fits _ _ g.row.B _ c.loop-i-test.true (omega arith)
+pub slice_bounds-turn-end : goal.slice_bounds-turn-end
+slice_bounds-turn-end g c = fits _ _ g.row.B _ c.loop-i-test.true (omega arith)
 
 pub loop-i-init : goal.loop-i-init
 loop-i-init g c = runs_none _ _ _ _ _ _ c.args.self.now.prev.sized
