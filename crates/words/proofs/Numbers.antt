@@ -1,5 +1,5 @@
 -- The word of 128 bits: its halves and its bytes are those of its number.
-use Rattle.std.proofs.Common.{◌≡◌, ℕ, ◌+◌, ◌/◌, ◌%◌, ◌^◌, ◌<◌, ◌++◌, length, sym, ap, ◌∙◌, arith}
+use Rattle.std.proofs.Common.{◌≡◌, ℕ, ◌/◌, ◌%◌, ◌^◌, ◌<◌, ◌++◌, length, sym, ap, ◌∙◌, arith}
 use native.Mathlib.Nat.{div-div-eq-div-mul}
 use lib.Bits.{bit_xor, xor_shr, xor_mod, xor_zero_r}
 use Rattle.std.proofs.lemmas.Nat.{shr_split, shr_high, mod_low}

@@ -20,4 +20,4 @@ unfolding low_bytes
 invariant_of-result c =
     let low : c.copy_from_slice.new.self ≡ long_bytes c.args.low = c.copy_from_slice.ensures.after ∙ c.block_of_words.ensures in
     let high : c.copy_from_slice-2.new.self ≡ long_bytes c.args.high = c.copy_from_slice-2.ensures.after ∙ c.block_of_words-2.ensures in
-    (rw (low, high), tt)
+    record { sized = rw (low, high) }

@@ -1,4 +1,4 @@
-use Rattle.std.proofs.Common.{◌+◌, ◌++◌, take, drop, sym, ap, ◌∙◌, drop-drop, take-add}
+use Rattle.std.proofs.Common.{◌++◌, take, drop, sym, ap, ◌∙◌, drop-drop, take-add}
 use Rattle.mixers.proofs.words_of.long_at.Goals as goal
 
 pub returns : goal.returns
