@@ -36,7 +36,7 @@ pub(crate) fn seal_under<const B: usize, M: Mixer<B>>(
 ) -> Answer
     ensures code { result.code ≡ code_in (seal_answer B key.now nonce.now ad.now message.now out.old) }
     ensures length { result.length ≡ length_in (all_in (seal_answer B key.now nonce.now ad.now message.now out.old)) }
-    ensures buffer { out.new ≡ seal_leaves (mixing mixer.now) B key.now nonce.now ad.now message.now out.old }
+    ensures buffer { out.new ≡ seal_leaves (M.mixing mixer.now) B key.now nonce.now ad.now message.now out.old }
 {
     match seal(mixer, key, nonce, ad, message, out) {
         Ok((_, length)) => Answer { code: 0, length },
@@ -54,9 +54,9 @@ pub(crate) fn open_under<const B: usize, M: Mixer<B>>(
     tag: &[u8],
     text: &mut [u8],
 ) -> Answer
-    ensures code { result.code ≡ code_in (open_answer (mixing mixer.now) B key.now nonce.now ad.now cipher.now tag.now text.old) }
-    ensures length { result.length ≡ length_in (open_answer (mixing mixer.now) B key.now nonce.now ad.now cipher.now tag.now text.old) }
-    ensures buffer { text.new ≡ open_leaves (mixing mixer.now) B key.now nonce.now ad.now cipher.now tag.now text.old }
+    ensures code { result.code ≡ code_in (open_answer (M.mixing mixer.now) B key.now nonce.now ad.now cipher.now tag.now text.old) }
+    ensures length { result.length ≡ length_in (open_answer (M.mixing mixer.now) B key.now nonce.now ad.now cipher.now tag.now text.old) }
+    ensures buffer { text.new ≡ open_leaves (M.mixing mixer.now) B key.now nonce.now ad.now cipher.now tag.now text.old }
 {
     match open(mixer, key, nonce, ad, cipher, tag, text) {
         Ok(length) => Answer { code: 0, length },

@@ -54,7 +54,7 @@ fn seal_nothing() -> [u8; 32]
 
 // Mixes a state of unlike bytes.
 fn mix_unlike<const B: usize, M: Mixer<B>>(mixer: &M) -> State<B>
-    ensures { view result ≡ mixing mixer.now (unlike B) }
+    ensures { view result ≡ M.mixing mixer.now (unlike B) }
 {
     let mut state = State {
         upper: Block::of(b" !\"#$%&'()*+,-./0123456789:;<=>?"),

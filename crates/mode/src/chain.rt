@@ -21,7 +21,7 @@ pub(crate) struct Chain<const B: usize> {
 impl<const B: usize> Chain<B> {
     // Mixes the state, and takes ⊕ of its lower block with the block before.
     fn advance<M: Mixer<B>>(&mut self, mixer: &M)
-        ensures state { view self.new.state ≡ advanced (mixing mixer.now) (view self.old.state) self.old.prev.bytes }
+        ensures state { view self.new.state ≡ advanced (M.mixing mixer.now) (view self.old.state) self.old.prev.bytes }
         ensures prev { self.new.prev ≡ self.old.prev }
     {
         mixer.mix(&mut self.state);
@@ -30,7 +30,7 @@ impl<const B: usize> Chain<B> {
 
     // Takes in a block of data or message; its ciphertext is then the upper block of the state.
     fn absorb<M: Mixer<B>>(&mut self, mixer: &M, block: &Block<B>)
-        ensures state { view self.new.state ≡ (seal_step (mixing mixer.now) (view self.old.state) self.old.prev.bytes block.now.bytes).state }
+        ensures state { view self.new.state ≡ (seal_step (M.mixing mixer.now) (view self.old.state) self.old.prev.bytes block.now.bytes).state }
         ensures prev { self.new.prev.bytes ≡ block.now.bytes }
     {
         self.advance(mixer);
@@ -40,8 +40,8 @@ impl<const B: usize> Chain<B> {
 
     // Takes in a block of ciphertext; its message block is then the block before.
     fn recover<M: Mixer<B>>(&mut self, mixer: &M, block: &Block<B>)
-        ensures state { view self.new.state ≡ (open_step (mixing mixer.now) (view self.old.state) self.old.prev.bytes block.now.bytes).state }
-        ensures prev { self.new.prev.bytes ≡ (open_step (mixing mixer.now) (view self.old.state) self.old.prev.bytes block.now.bytes).prev }
+        ensures state { view self.new.state ≡ (open_step (M.mixing mixer.now) (view self.old.state) self.old.prev.bytes block.now.bytes).state }
+        ensures prev { self.new.prev.bytes ≡ (open_step (M.mixing mixer.now) (view self.old.state) self.old.prev.bytes block.now.bytes).prev }
     {
         self.advance(mixer);
         let mut message = self.state.upper;
@@ -53,9 +53,9 @@ impl<const B: usize> Chain<B> {
     // Takes in the block that stands in `place`, and writes there what it becomes: ciphertext or message.
     fn turn<M: Mixer<B>>(&mut self, mixer: &M, way: Way, place: &mut [u8])
         requires { length place.old ≡ B }
-        ensures state { view self.new.state ≡ (step_of way (mixing mixer.now) (view self.old.state) self.old.prev.bytes place.old).state }
-        ensures prev { self.new.prev.bytes ≡ (step_of way (mixing mixer.now) (view self.old.state) self.old.prev.bytes place.old).prev }
-        ensures block { place.new ≡ (step_of way (mixing mixer.now) (view self.old.state) self.old.prev.bytes place.old).block }
+        ensures state { view self.new.state ≡ (step_of way (M.mixing mixer.now) (view self.old.state) self.old.prev.bytes place.old).state }
+        ensures prev { self.new.prev.bytes ≡ (step_of way (M.mixing mixer.now) (view self.old.state) self.old.prev.bytes place.old).prev }
+        ensures block { place.new ≡ (step_of way (M.mixing mixer.now) (view self.old.state) self.old.prev.bytes place.old).block }
     {
         let block = Block::of(place);
         match way {
@@ -81,9 +81,9 @@ impl<const B: usize> Chain<B> {
         count: usize,
     )
         requires { count * B ≤ length text.old }
-        ensures out { text.new ≡ run_out (step_of way (mixing mixer.now)) B count (view self.old.state) self.old.prev.bytes text.old }
-        ensures state { view self.new.state ≡ run_state (step_of way (mixing mixer.now)) B count (view self.old.state) self.old.prev.bytes text.old }
-        ensures prev { self.new.prev.bytes ≡ run_prev (step_of way (mixing mixer.now)) B count (view self.old.state) self.old.prev.bytes text.old }
+        ensures out { text.new ≡ run_out (step_of way (M.mixing mixer.now)) B count (view self.old.state) self.old.prev.bytes text.old }
+        ensures state { view self.new.state ≡ run_state (step_of way (M.mixing mixer.now)) B count (view self.old.state) self.old.prev.bytes text.old }
+        ensures prev { self.new.prev.bytes ≡ run_prev (step_of way (M.mixing mixer.now)) B count (view self.old.state) self.old.prev.bytes text.old }
     {
         for i in 0..count {
             let at = i * B;
@@ -94,8 +94,8 @@ impl<const B: usize> Chain<B> {
     // Takes in the `count` blocks at the front of `bytes`.
     fn absorb_all<M: Mixer<B>>(&mut self, mixer: &M, bytes: &[u8], count: usize)
         requires { count * B ≤ length bytes.now }
-        ensures state { view self.new.state ≡ run_state (seal_step (mixing mixer.now)) B count (view self.old.state) self.old.prev.bytes bytes.now }
-        ensures prev { self.new.prev.bytes ≡ run_prev (seal_step (mixing mixer.now)) B count (view self.old.state) self.old.prev.bytes bytes.now }
+        ensures state { view self.new.state ≡ run_state (seal_step (M.mixing mixer.now)) B count (view self.old.state) self.old.prev.bytes bytes.now }
+        ensures prev { self.new.prev.bytes ≡ run_prev (seal_step (M.mixing mixer.now)) B count (view self.old.state) self.old.prev.bytes bytes.now }
     {
         for i in 0..count {
             let at = i * B;
@@ -106,8 +106,8 @@ impl<const B: usize> Chain<B> {
 
     // Takes in the associated data, padded.
     fn absorb_data<M: Mixer<B>>(&mut self, mixer: &M, ad: &[u8])
-        ensures state { view self.new.state ≡ all_state (seal_step (mixing mixer.now)) B (view self.old.state) self.old.prev.bytes (pad_data B ad.now) }
-        ensures prev { self.new.prev.bytes ≡ all_prev (seal_step (mixing mixer.now)) B (view self.old.state) self.old.prev.bytes (pad_data B ad.now) }
+        ensures state { view self.new.state ≡ all_state (seal_step (M.mixing mixer.now)) B (view self.old.state) self.old.prev.bytes (pad_data B ad.now) }
+        ensures prev { self.new.prev.bytes ≡ all_prev (seal_step (M.mixing mixer.now)) B (view self.old.state) self.old.prev.bytes (pad_data B ad.now) }
     {
         if ad.len() > 0 {
             let whole = ad.len() / B;
@@ -120,8 +120,8 @@ impl<const B: usize> Chain<B> {
     // The chain once key, nonce and data are in.
     pub(crate) fn begin<M: Mixer<B>>(mixer: &M, key: &[u8], nonce: &[u8], ad: &[u8]) -> Self
         requires { Admitted B key.now nonce.now ad.now }
-        ensures state { view result.state ≡ data_state (mixing mixer.now) B key.now nonce.now ad.now }
-        ensures prev { result.prev.bytes ≡ data_prev (mixing mixer.now) B key.now nonce.now ad.now }
+        ensures state { view result.state ≡ data_state (M.mixing mixer.now) B key.now nonce.now ad.now }
+        ensures prev { result.prev.bytes ≡ data_prev (M.mixing mixer.now) B key.now nonce.now ad.now }
     {
         let state = State {
             upper: Block::of(nonce),
@@ -138,7 +138,7 @@ impl<const B: usize> Chain<B> {
     // The tag, after the last block.
     pub(crate) fn tag<M: Mixer<B>>(&self, mixer: &M, key: &[u8]) -> Block<B>
         requires { length key.now ≡ B }
-        ensures { result.bytes ≡ tag_at (mixing mixer.now) key.now (view self.now.state) self.now.prev.bytes }
+        ensures { result.bytes ≡ tag_at (M.mixing mixer.now) key.now (view self.now.state) self.now.prev.bytes }
     {
         let mut state = self.state;
         mixer.mix(&mut state);

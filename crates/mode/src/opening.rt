@@ -54,8 +54,8 @@ fn write_opened<const B: usize, M: Mixer<B>>(
     text: &mut [u8],
 ) -> Block<B>
     requires { (Admitted B key.now nonce.now ad.now) × (length cipher.now ≤ length text.old) }
-    ensures tag { result.bytes ≡ opened_tag (mixing mixer.now) B key.now nonce.now ad.now cipher.now }
-    ensures text { text.new ≡ over (opened_blocks (mixing mixer.now) B key.now nonce.now ad.now cipher.now) text.old }
+    ensures tag { result.bytes ≡ opened_tag (M.mixing mixer.now) B key.now nonce.now ad.now cipher.now }
+    ensures text { text.new ≡ over (opened_blocks (M.mixing mixer.now) B key.now nonce.now ad.now cipher.now) text.old }
 {
     let mut chain = Chain::begin(mixer, key, nonce, ad);
     put(text, 0, cipher);
@@ -94,9 +94,9 @@ pub fn open<const B: usize, M: Mixer<B>>(
     tag: &[u8],
     text: &mut [u8],
 ) -> Result<usize, Fault>
-    ensures answer { result ≡ open_answer (mixing mixer.now) B key.now nonce.now ad.now cipher.now tag.now text.old }
-    ensures buffer { text.new ≡ open_leaves (mixing mixer.now) B key.now nonce.now ad.now cipher.now tag.now text.old }
-    ensures exactly { OpensSealed (mixing mixer.now) B key.now nonce.now ad.now cipher.now tag.now text.old result text.new }
+    ensures answer { result ≡ open_answer (M.mixing mixer.now) B key.now nonce.now ad.now cipher.now tag.now text.old }
+    ensures buffer { text.new ≡ open_leaves (M.mixing mixer.now) B key.now nonce.now ad.now cipher.now tag.now text.old }
+    ensures exactly { OpensSealed (M.mixing mixer.now) B key.now nonce.now ad.now cipher.now tag.now text.old result text.new }
 {
     let written = cipher.len();
     check_lengths::<B>(

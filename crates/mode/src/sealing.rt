@@ -53,7 +53,7 @@ fn write_sealed<const B: usize, M: Mixer<B>>(
     out: &mut [u8],
 )
     requires { (Admitted B key.now nonce.now ad.now) × ((length message.now ≤ message_most) × (cipher_length B (length message.now) + B ≤ length out.old)) }
-    ensures { out.new ≡ over (cipher_text (mixing mixer.now) B key.now nonce.now ad.now message.now ++ cipher_tag (mixing mixer.now) B key.now nonce.now ad.now message.now) out.old }
+    ensures { out.new ≡ over (cipher_text (M.mixing mixer.now) B key.now nonce.now ad.now message.now ++ cipher_tag (M.mixing mixer.now) B key.now nonce.now ad.now message.now) out.old }
 {
     let cipher = cipher_len::<B>(message.len());
     let mut chain = Chain::begin(mixer, key, nonce, ad);
@@ -74,8 +74,8 @@ pub fn seal<const B: usize, M: Mixer<B>>(
     out: &mut [u8],
 ) -> Result<(usize, usize), Fault>
     ensures answer { result ≡ seal_answer B key.now nonce.now ad.now message.now out.old }
-    ensures buffer { out.new ≡ seal_leaves (mixing mixer.now) B key.now nonce.now ad.now message.now out.old }
-    ensures again { IfOk result (OpensAgain (mixing mixer.now) B key.now nonce.now ad.now message.now) }
+    ensures buffer { out.new ≡ seal_leaves (M.mixing mixer.now) B key.now nonce.now ad.now message.now out.old }
+    ensures again { IfOk result (OpensAgain (M.mixing mixer.now) B key.now nonce.now ad.now message.now) }
 {
     let lengths = seal_lengths::<B>(key.len(), nonce.len(), ad.len(), message.len(), out.len())?;
     write_sealed(mixer, key, nonce, ad, message, out);

@@ -17,19 +17,19 @@ judge-requires g c =
 pub returns-in_err-check_lengths : goal.returns-in_err-check_lengths
 returns-in_err-check_lengths g c =
     let m = c.args.mixer.now in
-    let p = err_from_is_err_and c.from-residual.result c.from-residual.ensures.1 in
+    let p = err_from_is_err_and c.from_residual.result c.from_residual.ensures.1 in
     let ends = at_once (g.M.Mixer.mixing m) g.row.B (g.M.Mixer.mark_byte m) (g.M.Mixer.laws m) c.args.key.now c.args.nonce.now c.args.ad.now c.args.cipher.now c.args.tag.now c.args.text.now
-    _ c.from-residual.result (sym c.in_err-check_lengths.was ∙ c.check_lengths.ensures) (p.1 ∙ ap Err p.2) in
+    _ c.from_residual.result (sym c.in_err-check_lengths.was ∙ c.check_lengths.ensures) (p.1 ∙ ap Err p.2) in
     record { answer = ends.answer; buffer = ends.buffer; exactly = ends.law_holds }
 
 pub returns-in_err-len : goal.returns-in_err-len
 returns-in_err-len g c =
     let m = c.args.mixer.now in
     let e = c.write_opened-expected.ensures in
-    let p = err_from_is_err_and c.from-residual-in_err-len.result c.from-residual-in_err-len.ensures.1 in
+    let p = err_from_is_err_and c.from_residual-in_err-len.result c.from_residual-in_err-len.ensures.1 in
     let ends = at_refusal (g.M.Mixer.mixing m) g.row.B (g.M.Mixer.mark_byte m) (g.M.Mixer.laws m) c.args.key.now c.args.nonce.now c.args.ad.now c.args.cipher.now c.args.tag.now c.write_opened-expected.result.bytes c.args.text.now c.write_opened-expected.new.text c.text.result.now _
     (record { tag_is = e.tag; text_is = e.text }) c.text.ensures c.in_ok-check_lengths.ensures
-    _ c.from-residual-in_err-len.result c.drop-guard.new.self.0 (sym c.judge.ensures ∙ c.in_err-len.was) (p.1 ∙ ap Err p.2) c.drop-guard.ensures in
+    _ c.from_residual-in_err-len.result c.drop-guard.new.self.0 (sym c.judge.ensures ∙ c.in_err-len.was) (p.1 ∙ ap Err p.2) c.drop-guard.ensures in
     record { answer = ends.answer; buffer = ends.buffer; exactly = ends.law_holds }
 
 pub zero-requires : goal.zero-requires

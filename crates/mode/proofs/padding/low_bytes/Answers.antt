@@ -1,4 +1,4 @@
-use Rattle.std.proofs.Common.{◌-◌, sym, ◌∙◌, arith, length-set}
+use Rattle.std.proofs.Common.{sym, ◌∙◌, arith, length-set}
 use Rattle.mode.proofs.Pads.{low_more, low_none}
 use Rattle.mode.proofs.padding.low_bytes.Goals as goal
 

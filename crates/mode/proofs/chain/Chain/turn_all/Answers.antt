@@ -13,8 +13,8 @@ loop-i-preserved g c =
     let e = c.turn.ensures in
     runs_more _ _ _ _ _ _ _ _ _ _ _ _ _ c.loop-i.invariant c.loop-i-test.true c.requires c.turn.auto.place c.turn.new.self.prev.sized e.state e.prev e.block
 
-pub shape-of-text : goal.shape-of-text
-shape-of-text g c = c.loop-i.invariant.size
+pub shape_of-text : goal.shape_of-text
+shape_of-text g c = c.loop-i.invariant.size
 
 pub returns : goal.returns
 returns g c =
