@@ -1,5 +1,5 @@
 use Rattle.std.proofs.Common.{◌≡◌, ap, ◌∙◌}
-use Rattle.mixers.specs.Halves.{Halves, halves}
+use Rattle.mixers.specs.Halves.{halves}
 use Rattle.examples.specs.Worked.{unlike}
 use Rattle.examples.proofs.mix_unlike.Goals as goal
 
