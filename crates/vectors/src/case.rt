@@ -1,4 +1,5 @@
 // One comparison, by name.
+use anyhow::anyhow;
 use reference::Kind;
 use std::alloc::Global;
 
@@ -21,8 +22,8 @@ impl Case {
         let what = self.what;
         let number = self.number;
         match format!(in heap; "{mixer}, {what} {number}: {how}") {
-            Ok(text) => text.into(),
-            Err(_) => "a comparison failed, and no memory is left to name it".into(),
+            Ok(text) => anyhow!(text),
+            Err(_) => anyhow!("a comparison failed, and no memory is left to name it"),
         }
     }
 }
