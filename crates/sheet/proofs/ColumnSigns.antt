@@ -1,5 +1,5 @@
 -- A number with a minus in front, or none.
-use Rattle.std.proofs.Common.{◌≡◌, ℕ, zero, suc, ◌+◌, ◌-◌, ◌<◌, ◌≤◌, true, false, cond, eqb, List, ◌∷◌, length, get_or, take, drop, set, ℤ, pos, negsuc, neg_ℤ, nat_abs, Ok, Err, decimal, Result, sym, refl, ap, ◌∙◌, arith, rules}
+use Rattle.std.proofs.Common.{◌≡◌, ℕ, ◌+◌, ◌-◌, ◌<◌, true, false, cond, eqb, List, ◌∷◌, length, get_or, take, drop, set, ℤ, pos, negsuc, neg_ℤ, nat_abs, Ok, Err, decimal, Result, sym, refl, ap, ◌∙◌, arith, rules}
 use lib.Signed.{lt_z}
 use Rattle.std.specs.Fmt.{signed_decimal}
 use Rattle.std.proofs.lemmas.List.{take_rest, drop-set}

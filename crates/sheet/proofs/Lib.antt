@@ -3,3 +3,4 @@ mod ColumnSteps
 mod ColumnDigits
 mod ColumnSigns
 mod OneColumn
+pub mod LineLaid

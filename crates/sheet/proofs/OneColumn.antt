@@ -1,11 +1,11 @@
 -- What is written is read back, and what is read is what would be written.
-use Rattle.std.proofs.Common.{◌≡◌, ℕ, zero, suc, ◌+◌, ◌-◌, ◌*◌, ◌^◌, ◌<◌, ◌≤◌, Bool, true, false, cond, not, ◌&&◌, ◌||◌, eqb, ltb, leb, List, [], ◌∷◌, ◌++◌, length, get_or, drop, replicate, ℤ, pos, negsuc, neg_ℤ, Ok, Err, decimal, Result, sym, refl, ap, ◌∙◌, ⊎_elim, arith, rules}
+use Rattle.std.proofs.Common.{◌≡◌, ℕ, zero, suc, ◌+◌, ◌-◌, ◌^◌, ◌<◌, ◌≤◌, Bool, true, false, cond, not, ◌&&◌, ◌||◌, eqb, ltb, leb, List, [], ◌∷◌, ◌++◌, length, get_or, drop, replicate, ℤ, pos, negsuc, neg_ℤ, Ok, Err, decimal, Result, sym, refl, ap, ◌∙◌, ⊎_elim, arith, rules}
 use lib.Signed.{le_z, mag}
 use Rattle.std.specs.Char.{is_ascii_digit}
 use Rattle.std.specs.Fmt.{signed_decimal}
 use Rattle.std.specs.Str.{all_ascii_digits}
-use Rattle.std.proofs.lemmas.List.{length-append, length-replicate, length-drop, drop_more, drop_all}
-use Rattle.std.proofs.lemmas.Bool.{cond-true, cond-false, ne_eqb, eq-eqb, eqb-true, eqb-false, cases_Bool, cases_eq, and_parts, or_cases, ltb-true, not-true, le-leb, leb-true, and_from}
+use Rattle.std.proofs.lemmas.List.{length-append, length-replicate, length-drop}
+use Rattle.std.proofs.lemmas.Bool.{cond-true, cond-false, ne_eqb, eqb-true, eqb-false, cases_Bool, cases_eq, and_parts, or_cases, ltb-true, not-true, le-leb, leb-true, and_from}
 use Rattle.std.proofs.lemmas.Str.Parse.{IsNumeralModel, numerals_by_fold, digits_value_short}
 use Rattle.std.proofs.lemmas.Fmt.{digits_decimal, digits_value-decimal, decimal-digits_value, decimal_nonempty, decimal_digit, first_decimal, length-decimal-le, length_signed_le}
 use Rattle.sheet.specs.Columns.{unspaced, read_on, is_number, read_number, read_signed, between, between_signed, read_column, read_signed_column, at_right, number_column, signed_column}

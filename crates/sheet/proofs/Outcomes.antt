@@ -1,5 +1,5 @@
 -- What an Ok and an Err tell of where they came from.
-use Rattle.std.proofs.Common.{◌≡◌, Bool, true, false, cond, Ok, Err, Result, sym, refl, ap, ◌∙◌, arith}
+use Rattle.std.proofs.Common.{◌≡◌, Bool, true, false, cond, Ok, Err, Result, refl, ap, arith}
 use Rattle.sheet.specs.Faults.{through, carried}
 use Rattle.sheet.specs.declared.fault.ColumnFault.{ColumnFault}
 use Rattle.sheet.specs.declared.fault.Fault.{Fault}

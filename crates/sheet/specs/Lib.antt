@@ -5,8 +5,4 @@ pub mod Ranges
 pub mod Meanings
 pub mod Lines
 pub mod Texts
-pub mod Tables
-pub mod Sheets
 pub mod Positions
-pub mod Calls
-pub mod Laws

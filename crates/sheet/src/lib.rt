@@ -1,9 +1,10 @@
-// Grade sheets and their text, one to one. docs/SHEET.md has them in words.
+// Grade sheets and their text, one to one. So far it has the faults, and columns and lines of the text.
 #![tactic(auto)]
 
 mod column;
 mod fault;
 mod limits;
+mod lines;
 mod position;
 mod zone;
 

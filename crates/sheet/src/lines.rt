@@ -1,5 +1,6 @@
 // One line of a text.
 ghost use Rattle.std.specs.Prelude.{◌≡◌, ℕ, ◌*◌, ◌≤◌, length, IfOk, OnOk};
+ghost use Rattle.sheet.specs.Faults.{place_at};
 ghost use Rattle.sheet.specs.Limits.{grade_most, zones_most, width_least, width_most, line_bytes};
 ghost use Rattle.sheet.specs.Lines.{read_end, read_head, read_zone, head_text, zone_text, judge_zone};
 ghost use Rattle.sheet.specs.Ranges.{ZoneInRange};
@@ -17,6 +18,12 @@ use crate::zone::Zone;
 pub(crate) struct Head {
     pub(crate) grade: u32,
     pub(crate) width: u16,
+}
+
+fn at(line: usize, column: usize) -> Place
+    ensures { result ≡ place_at line column }
+{
+    Place { line, column }
 }
 
 // The end of a line is its column 4.

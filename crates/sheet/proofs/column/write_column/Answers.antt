@@ -1,4 +1,4 @@
-use Rattle.std.proofs.Common.{◌≡◌, decimal, ap, ◌∙◌, arith}
+use Rattle.std.proofs.Common.{decimal, ap, ◌∙◌, arith}
 use Rattle.sheet.specs.Columns.{number_column}
 use Rattle.sheet.proofs.ColumnDigits.{at_right_lem}
 use Rattle.sheet.proofs.column.write_column.Goals as goal

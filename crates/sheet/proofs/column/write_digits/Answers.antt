@@ -1,6 +1,6 @@
-use Rattle.std.proofs.Common.{◌≡◌, ◌+◌, ◌-◌, ◌^◌, ◌<◌, ◌++◌, length, drop, decimal, sym, ap, ◌∙◌, arith, pow-add}
+use Rattle.std.proofs.Common.{◌≡◌, ◌+◌, ◌-◌, ◌++◌, length, drop, decimal, sym, ap, ◌∙◌, arith}
 use Rattle.std.proofs.lemmas.List.{length-set, drop_all, append-nil}
-use Rattle.sheet.proofs.ColumnDigits.{front, front-none, front-some, put_digit, power_down, some_place}
+use Rattle.sheet.proofs.ColumnDigits.{front-none, front-some, put_digit, power_down, some_place}
 use Rattle.sheet.proofs.column.write_digits.Goals as goal
 
 pub loop-rest-init : goal.loop-rest-init

@@ -1,4 +1,4 @@
-use Rattle.std.proofs.Common.{◌≡◌, ◌^◌, ◌<◌, ◌≤◌, cond, eqb, List, [], ◌++◌, length, drop, decimal}
+use Rattle.std.proofs.Common.{◌≡◌, ◌^◌, ◌<◌, ◌≤◌, cond, eqb, [], ◌++◌, length, drop, decimal}
 use Rattle.sheet.proofs.column.write_digits.Given as goal
 
 -- what is written, after the digits that are still to come, is the number
