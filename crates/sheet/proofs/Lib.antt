@@ -1,6 +1,8 @@
 mod Outcomes
-mod ColumnSteps
+mod Numbers
+mod Signs
 mod ColumnDigits
-mod ColumnSigns
+mod Spaces
 mod OneColumn
+pub mod InRange
 pub mod LineLaid

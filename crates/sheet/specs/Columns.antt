@@ -1,27 +1,11 @@
 -- A column of text: spaces, and then a number in decimal digits up to the column's end.
-use Rattle.std.specs.Prelude.{ℕ, ◌+◌, ◌-◌, ◌*◌, Bool, cond, not, ◌&&◌, ◌||◌, List, [], ◌∷◌, ◌++◌, length, drop, replicate, ℤ, pos, neg_ℤ, Ok, Err, decimal, Result, ◌==◌, int_le, nat_le, nat_lt, slice_index}
+use Rattle.std.specs.Prelude.{ℕ, ◌+◌, ◌-◌, ◌*◌, Bool, cond, not, ◌&&◌, ◌||◌, List, [], ◌∷◌, ◌++◌, length, drop, replicate, ℤ, pos, neg_ℤ, Some, None, Option, Ok, Err, decimal, Result, ◌==◌, int_le, nat_le, nat_lt, slice_index, ok_or, option_map, option_and_then}
 use Rattle.std.specs.Fmt.{signed_decimal}
 use Rattle.std.specs.Str.{all_ascii_digits}
-use Rattle.sheet.specs.Faults.{through}
+use Rattle.sheet.specs.Faults.{place_at, through}
+use Rattle.sheet.specs.declared.column.Column.{Column}
 use Rattle.sheet.specs.declared.fault.ColumnFault.{ColumnFault}
 use Rattle.sheet.specs.declared.fault.ColumnFault.TheVariants.{Shape, Range}
-use Rattle.sheet.specs.declared.fault.Place.{Place}
-
--- a text at the right end of a column of w bytes
-abbrev pub at_right : ℕ → List ℕ → List ℕ
-at_right w ds = replicate (w - length ds) 32 ++ ds
-
--- the column of w bytes that is written for a number, and for one that may be below zero
-abbrev pub number_column : ℕ → ℕ → List ℕ
-number_column w n = at_right w (decimal n)
-
-abbrev pub signed_column : ℕ → ℤ → List ℕ
-signed_column w z = at_right w (signed_decimal z)
-
--- what follows the spaces in front
-abbrev pub unspaced : List ℕ → List ℕ
-unspaced [] = []
-unspaced (c ∷ cs) = cond (c == 32) (unspaced cs) (c ∷ cs)
 
 -- one digit or more, and no zero in front of another
 abbrev pub is_number : List ℕ → Bool
@@ -32,28 +16,56 @@ abbrev pub read_on : ℕ → List ℕ → ℕ
 read_on n [] = n
 read_on n (c ∷ cs) = read_on (10 * n + (c - 48)) cs
 
--- a column and its fault, if it has one, are named by the place p
-module _ (p : Place) where
-  abbrev pub read_number : List ℕ → Result ℕ ColumnFault
-  read_number ds = cond (is_number ds) (Ok (read_on 0 ds)) (Err (Shape p))
+abbrev pub read_number : List ℕ → Option ℕ
+read_number ds = cond (is_number ds) (Some (read_on 0 ds)) None
 
-  -- a number below zero has a minus before its digits; zero has none
-  abbrev pub read_signed : List ℕ → Result ℤ ColumnFault
-  read_signed ds =
-      cond (slice_index ds 0 == 45)
-      (through (read_number (drop 1 ds)) (λ n. cond (n == 0) (Err (Shape p)) (Ok (neg_ℤ (pos n)))))
-      (through (read_number ds) (λ n. Ok (pos n)))
+-- a number below zero has a minus before its digits; zero has none
+abbrev pub below_zero : ℕ → Option ℤ
+below_zero n = cond (n == 0) None (Some (neg_ℤ (pos n)))
 
-  -- numbers from `least` to `most`
-  abbrev pub between : ℕ → ℕ → ℕ → Result ℕ ColumnFault
-  between least most n = cond (nat_le least n && nat_le n most) (Ok n) (Err (Range p))
+abbrev pub read_signed : List ℕ → Option ℤ
+read_signed ds =
+    cond (slice_index ds 0 == 45) (option_and_then below_zero (read_number (drop 1 ds))) (option_map pos (read_number ds))
 
-  abbrev pub between_signed : ℤ → ℤ → ℤ → Result ℤ ColumnFault
-  between_signed least most z = cond (int_le least z && int_le z most) (Ok z) (Err (Range p))
+-- the numbers that columns hold: which one a text reads as, the text that writes one, and whether one is at most another
+pub record Numerals (A : Type 0) : Type 0 where
+  pub reads : List ℕ → Option A
+  pub text : A → List ℕ
+  pub at_most : A → A → Bool
+
+-- digits alone
+abbrev pub plain : Numerals ℕ
+plain = record { reads = read_number; text = decimal; at_most = nat_le }
+
+-- digits, with a minus before them below zero
+abbrev pub signed : Numerals ℤ
+signed = record { reads = read_signed; text = signed_decimal; at_most = int_le }
+
+-- the column `number` of a line, for what lies from `least` to `most`
+abbrev pub column_at : {A : Type 0} → ℕ → ℕ → A → A → Column A
+column_at line number least most = record { place = place_at line number; least = least; most = most }
+
+-- what follows the spaces in front
+abbrev pub unspaced : List ℕ → List ℕ
+unspaced [] = []
+unspaced (c ∷ cs) = cond (c == 32) (unspaced cs) (c ∷ cs)
+
+-- a text at the right end of a column of w bytes
+abbrev pub at_right : ℕ → List ℕ → List ℕ
+at_right w ds = replicate (w - length ds) 32 ++ ds
+
+module _ {A : Type 0} (N : Numerals A) where
+  -- the column of w bytes that is written for a number
+  abbrev pub column_of : ℕ → A → List ℕ
+  column_of w n = at_right w (N.text n)
+
+  -- whether a column may hold a number
+  abbrev pub allows : Column A → A → Bool
+  allows c n = N.at_most c.least n && N.at_most n c.most
+
+  abbrev pub between : Column A → A → Result A ColumnFault
+  between c n = cond (allows c n) (Ok n) (Err (Range c.place))
 
   -- the number in a column: its shape is judged before its range
-  abbrev pub read_column : ℕ → ℕ → List ℕ → Result ℕ ColumnFault
-  read_column least most bs = through (read_number (unspaced bs)) (between least most)
-
-  abbrev pub read_signed_column : ℤ → ℤ → List ℕ → Result ℤ ColumnFault
-  read_signed_column least most bs = through (read_signed (unspaced bs)) (between_signed least most)
+  abbrev pub read_column : Column A → List ℕ → Result A ColumnFault
+  read_column c bs = through (ok_or (N.reads (unspaced bs)) (Shape c.place)) (between c)

@@ -6,3 +6,4 @@ pub mod Meanings
 pub mod Lines
 pub mod Texts
 pub mod Positions
+pub mod Words

@@ -5,6 +5,7 @@ mod column;
 mod fault;
 mod limits;
 mod lines;
+mod numeral;
 mod position;
 mod zone;
 

@@ -1,5 +1,5 @@
 // A place across the paper, measured from its edge.
-#[derive(Clone, Copy)]
+#[derive(Clone, Copy, Debug, PartialEq, Eq)]
 pub struct Position {
     pub mm: u32,
 }
