@@ -2,4 +2,4 @@ pub mod Sizes
 pub mod Parts
 pub mod Lanes
 pub mod Rules
-pub mod Turns
+pub mod Quarters

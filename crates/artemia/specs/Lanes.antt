@@ -1,11 +1,9 @@
 -- States as the code holds them: four words, and the bytes that these stand for.
-use Rattle.std.specs.Prelude.{◌≡◌, ℕ, List, ◌++◌, length, slice_index}
-use Rattle.std.proofs.Common.{length-append}
+use Rattle.std.specs.Prelude.{◌≡◌, ℕ, List, [], ◌∷◌, ◌++◌, map, length, slice_index, refl}
 use Rattle.words.specs.declared.Group.{Group}
 use Rattle.words.specs.Bytes.{low_bytes, value, Bytes}
-use Rattle.words.specs.Long.{long_bytes}
-use Rattle.words.proofs.Bytes.{length-low, low_are_bytes, append-bytes}
-use Rattle.artemia.specs.Artemia.{Kind, substituted, parts, joined, four}
+use Rattle.words.proofs.Bytes.{length-low_bytes, Bytes-low_bytes}
+use Rattle.artemia.specs.Artemia.{Kind, substituted, parts, joined, four, constants, narrow, wide}
 
 -- the bytes of four words, where `held` gives those of one
 unfoldable pub laid : {W : Type 0} → (W → List ℕ) → Group W → List ℕ
@@ -24,12 +22,29 @@ pub record HeldLaws {W : Type 0} (n : ℕ) (held : W → List ℕ) : Type 0 wher
   pub sized : (x : W) → length (held x) ≡ n
   pub bytes : (x : W) → Bytes (held x)
 
--- They hold of both words of D1. The proofs stand here since the code's ghost members cite them.
-pub word_held : HeldLaws 8 (low_bytes 8)
-word_held = record { sized = length-low 8; bytes = low_are_bytes 8 }
+-- They hold of numbers as words of n bytes. The proof stands here since the code's ghost members cite it.
+pub numbers_held : (n : ℕ) → HeldLaws n (low_bytes n)
+numbers_held n = record { sized = length-low_bytes n; bytes = Bytes-low_bytes n }
 
-pub long_held : HeldLaws 16 long_bytes
-long_held = record {
-  sized = λ x. rw (length-append (low_bytes 8 x.lo) (low_bytes 8 x.hi), length-low 8 x.lo, length-low 8 x.hi);
-  bytes = λ x. append-bytes (low_bytes 8 x.lo) (low_bytes 8 x.hi) (low_are_bytes 8 x.lo) (low_are_bytes 8 x.hi);
-}
+-- the round constants, each by the 64 low bits of its four words, which are the same at both widths
+abbrev pub constant_rows : List (List ℕ)
+constant_rows =
+    (0x0f1e2d3b ∷ 0 ∷ 0 ∷ 0 ∷ [])
+    ∷ (0 ∷ 0x4b5a6978 ∷ 0 ∷ 0 ∷ [])
+    ∷ (0 ∷ 0 ∷ 0x8796a5b4 ∷ 0 ∷ [])
+    ∷ (0 ∷ 0 ∷ 0 ∷ 0xc3d2e1f0 ∷ [])
+    ∷ (0x2d3c4b5a00000000 ∷ 0 ∷ 0 ∷ 0 ∷ [])
+    ∷ (0 ∷ 0 ∷ 0x6978879600000000 ∷ 0 ∷ [])
+    ∷ []
+
+abbrev pub Constants : Kind → Type 0
+Constants k = map (constant_of k.first_bytes) constant_rows ≡ constants k
+
+-- Both are computed.
+pub narrow_constants : Constants narrow
+unfolding constant_of joined value low_bytes
+narrow_constants = refl
+
+pub wide_constants : Constants wide
+unfolding constant_of joined value low_bytes
+wide_constants = refl

@@ -1,12 +1,11 @@
 // What sealing and opening answer to C, which knows no `Result`.
 ghost use Rattle.std.specs.Prelude.{◌≡◌};
-ghost use Rattle.mode.specs.Faults.{code_of};
 ghost use Rattle.mode.specs.Opening.{open_answer, open_leaves};
 ghost use Rattle.mode.specs.Sealing.{seal_answer, seal_leaves};
 ghost use Rattle.bench_exports.specs.Answers.{code_in, length_in, all_in};
 
 use mixers::Mixer;
-use mode::{Fault, open, seal};
+use mode::{Fault, Setting, open, seal};
 
 // The code of a refusal and the length 0, or the code 0 and a length.
 #[repr(C)]
@@ -15,51 +14,47 @@ pub struct Answer {
     pub length: usize,
 }
 
-fn refused(fault: Fault) -> Answer
-    ensures code { result.code ≡ code_of fault }
-    ensures length { result.length ≡ 0 }
-{
-    Answer {
-        code: fault.code(),
-        length: 0,
+impl From<Result<usize, Fault>> for Answer {
+    ghost from_gives = { λ r answer. (answer.code ≡ code_in r) × (answer.length ≡ length_in r) };
+
+    fn from(answered: Result<usize, Fault>) -> Answer {
+        match answered {
+            Ok(length) => Answer { code: 0, length },
+            Err(fault) => Answer {
+                code: fault.code(),
+                length: 0,
+            },
+        }
     }
 }
 
 // `mode::seal`, with the length of ciphertext and tag for its answer.
 pub(crate) fn seal_under<const B: usize, M: Mixer<B>>(
     mixer: &M,
-    key: &[u8],
-    nonce: &[u8],
-    ad: &[u8],
+    setting: Setting,
     message: &[u8],
     out: &mut [u8],
 ) -> Answer
-    ensures code { result.code ≡ code_in (seal_answer B key.now nonce.now ad.now message.now out.old) }
-    ensures length { result.length ≡ length_in (all_in (seal_answer B key.now nonce.now ad.now message.now out.old)) }
-    ensures buffer { out.new ≡ seal_leaves (M.mixing mixer.now) B key.now nonce.now ad.now message.now out.old }
+    ensures code { let s = setting.entry in result.code ≡ code_in (seal_answer B s.key.now s.nonce.now s.ad.now message.now out.old) }
+    ensures length { let s = setting.entry in result.length ≡ length_in (all_in (seal_answer B s.key.now s.nonce.now s.ad.now message.now out.old)) }
+    ensures buffer { let s = setting.entry in out.new ≡ seal_leaves (M.mixing mixer.now) B s.key.now s.nonce.now s.ad.now message.now out.old }
 {
-    match seal(mixer, key, nonce, ad, message, out) {
-        Ok((_, length)) => Answer { code: 0, length },
-        Err(fault) => refused(fault),
-    }
+    seal(mixer, setting, message, out)
+        .map(|(_, length)| length)
+        .into()
 }
 
 // `mode::open`, with the length of the message for its answer.
 pub(crate) fn open_under<const B: usize, M: Mixer<B>>(
     mixer: &M,
-    key: &[u8],
-    nonce: &[u8],
-    ad: &[u8],
+    setting: Setting,
     cipher: &[u8],
     tag: &[u8],
     text: &mut [u8],
 ) -> Answer
-    ensures code { result.code ≡ code_in (open_answer (M.mixing mixer.now) B key.now nonce.now ad.now cipher.now tag.now text.old) }
-    ensures length { result.length ≡ length_in (open_answer (M.mixing mixer.now) B key.now nonce.now ad.now cipher.now tag.now text.old) }
-    ensures buffer { text.new ≡ open_leaves (M.mixing mixer.now) B key.now nonce.now ad.now cipher.now tag.now text.old }
+    ensures code { let s = setting.entry in result.code ≡ code_in (open_answer (M.mixing mixer.now) B s.key.now s.nonce.now s.ad.now cipher.now tag.now text.old) }
+    ensures length { let s = setting.entry in result.length ≡ length_in (open_answer (M.mixing mixer.now) B s.key.now s.nonce.now s.ad.now cipher.now tag.now text.old) }
+    ensures buffer { let s = setting.entry in text.new ≡ open_leaves (M.mixing mixer.now) B s.key.now s.nonce.now s.ad.now cipher.now tag.now text.old }
 {
-    match open(mixer, key, nonce, ad, cipher, tag, text) {
-        Ok(length) => Answer { code: 0, length },
-        Err(fault) => refused(fault),
-    }
+    open(mixer, setting, cipher, tag, text).into()
 }

@@ -8,8 +8,9 @@ ghost use Rattle.bench_exports.specs.Answers.{code_in, length_in, all_in};
 
 use crate::answer::{Answer, open_under, seal_under};
 use mixers::{Block, Mixer, Narrow, State};
+use mode::Setting;
 
-// A state as C lays it out: its bytes from the lowest on.
+// A state as C lays it out: its bytes from the lowest on. C takes no struct with a parameter, so each width has its own.
 #[repr(C)]
 pub struct NarrowState {
     pub lower: [u8; 16],
@@ -43,7 +44,7 @@ pub extern "C" fn nirgusel_narrow_seal(
     ensures length { result.length ≡ length_in (all_in (seal_answer 16 key.now nonce.now ad.now message.now out.old)) }
     ensures buffer { out.new ≡ seal_leaves narrow_mixing 16 key.now nonce.now ad.now message.now out.old }
 {
-    seal_under(&Narrow, key, nonce, ad, message, out)
+    seal_under(&Narrow, Setting { key, nonce, ad }, message, out)
 }
 
 // Opens; the length is that of the message.
@@ -60,5 +61,5 @@ pub extern "C" fn nirgusel_narrow_open(
     ensures length { result.length ≡ length_in (open_answer narrow_mixing 16 key.now nonce.now ad.now cipher.now tag.now text.old) }
     ensures buffer { text.new ≡ open_leaves narrow_mixing 16 key.now nonce.now ad.now cipher.now tag.now text.old }
 {
-    open_under(&Narrow, key, nonce, ad, cipher, tag, text)
+    open_under(&Narrow, Setting { key, nonce, ad }, cipher, tag, text)
 }

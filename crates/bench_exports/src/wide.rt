@@ -8,8 +8,9 @@ ghost use Rattle.bench_exports.specs.Answers.{code_in, length_in, all_in};
 
 use crate::answer::{Answer, open_under, seal_under};
 use mixers::{Block, Mixer, State, Wide};
+use mode::Setting;
 
-// A state as C lays it out: its bytes from the lowest on.
+// A state as C lays it out: its bytes from the lowest on. C takes no struct with a parameter, so each width has its own.
 #[repr(C)]
 pub struct WideState {
     pub lower: [u8; 32],
@@ -43,7 +44,7 @@ pub extern "C" fn nirgusel_wide_seal(
     ensures length { result.length ≡ length_in (all_in (seal_answer 32 key.now nonce.now ad.now message.now out.old)) }
     ensures buffer { out.new ≡ seal_leaves wide_mixing 32 key.now nonce.now ad.now message.now out.old }
 {
-    seal_under(&Wide, key, nonce, ad, message, out)
+    seal_under(&Wide, Setting { key, nonce, ad }, message, out)
 }
 
 // Opens; the length is that of the message.
@@ -60,5 +61,5 @@ pub extern "C" fn nirgusel_wide_open(
     ensures length { result.length ≡ length_in (open_answer wide_mixing 32 key.now nonce.now ad.now cipher.now tag.now text.old) }
     ensures buffer { text.new ≡ open_leaves wide_mixing 32 key.now nonce.now ad.now cipher.now tag.now text.old }
 {
-    open_under(&Wide, key, nonce, ad, cipher, tag, text)
+    open_under(&Wide, Setting { key, nonce, ad }, cipher, tag, text)
 }

@@ -8,7 +8,7 @@ ghost use Rattle.mode.specs.Sealing.{seal_leaves};
 ghost use Rattle.examples.specs.Worked.{WorkedExamples, exchange_example, unlike, exchange_of_unlike, narrow_of_unlike, wide_of_unlike};
 
 use mixers::{Block, Exchange, Mixer, Narrow, State, Wide};
-use mode::seal;
+use mode::{Setting, seal};
 
 // What the examples that are run gave.
 #[derive(Clone, Copy)]
@@ -48,7 +48,12 @@ fn seal_nothing() -> [u8; 32]
     ensures { result ≡ seal_leaves exchanged 16 (replicate 16 0x11) [] [] [] (replicate 32 0) }
 {
     let mut out = [0; 32];
-    let _ = seal(&Exchange, &[0x11; 16], &[], &[], &[], &mut out);
+    let setting = Setting {
+        key: &[0x11; 16],
+        nonce: &[],
+        ad: &[],
+    };
+    let _ = seal(&Exchange, setting, &[], &mut out);
     out
 }
 

@@ -3,7 +3,7 @@
 use Rattle.std.specs.Prelude.{◌≡◌, ℕ, ◌+◌, ◌≤◌, ◌⊎◌, List, ◌++◌, take, drop, refl}
 use Rattle.std.proofs.Common.{inl, inr, lit≤}
 use Rattle.artemia.specs.Artemia.{permuted, narrow, wide}
-use Rattle.artemia.proofs.Sizes.{Keeps, narrow_keeps, wide-keeps, halves-sized, halves-bytes}
+use Rattle.artemia.proofs.Sizes.{Keeps, narrow_keeps, wide_keeps, length-halves, Bytes-halves}
 use Rattle.mixers.specs.Halves.{Halves, halves, Lawful}
 
 -- a function on byte strings, as one on states of two blocks of n bytes
@@ -30,12 +30,12 @@ on_halves_lawful n mark f w lo hi keeps = record {
   width = w;
   least = lo;
   most = hi;
-  sized = λ s b. halves-sized n keeps s.lower s.upper b.1 b.0;
-  bytes = λ s z b. halves-bytes n keeps s.lower s.upper b.1 b.0;
+  sized = λ s b. length-halves n keeps s.lower s.upper b.1 b.0;
+  bytes = λ s z b. Bytes-halves n keeps s.lower s.upper b.1 b.0;
 }
 
 pub narrow_lawful : Lawful 16 narrow_mark narrow_mixing
 narrow_lawful = on_halves_lawful 16 narrow_mark (permuted narrow) (inl refl) (lit≤ tt) (lit≤ tt) narrow_keeps
 
 pub wide_lawful : Lawful 32 wide_mark wide_mixing
-wide_lawful = on_halves_lawful 32 wide_mark (permuted wide) (inr refl) (lit≤ tt) (lit≤ tt) wide-keeps
+wide_lawful = on_halves_lawful 32 wide_mark (permuted wide) (inr refl) (lit≤ tt) (lit≤ tt) wide_keeps

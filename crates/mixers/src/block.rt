@@ -21,31 +21,20 @@ impl<const B: usize> Block<B> {
     pub fn of(bytes: &[u8]) -> Self
         ensures { result.bytes ≡ block_of B bytes.now }
     {
-        let mut block = Block::zeros();
         let n = bytes.len().min(B);
-        block.lay(&bytes[0..n]);
-        block
+        let mut block = [0; B];
+        block[..n].copy_from_slice(&bytes[..n]);
+        Block { bytes: block }
     }
 
     // self := self ⊕ other
     pub fn xor(&mut self, other: &Block<B>)
         ensures { self.new.bytes ≡ xor_bytes self.old.bytes other.now.bytes }
     {
+        // Over `iter_mut().zip(..)` a proof learns nothing of what is written.
         let right = other.bytes;
-        let mut sum = self.bytes;
-        for i in 0..B {
-            sum[i] ^= right[i];
-        }
-        self.bytes = sum;
-    }
-
-    // Writes `bytes` over the front.
-    fn lay(&mut self, bytes: &[u8])
-        requires { length bytes.now ≤ B }
-        ensures { self.new.bytes ≡ bytes.now ++ drop (length bytes.now) self.old.bytes }
-    {
-        for i in 0..bytes.len() {
-            self.bytes[i] = bytes[i];
+        for (i, byte) in self.bytes.iter_mut().enumerate() {
+            *byte ^= right[i];
         }
     }
 }

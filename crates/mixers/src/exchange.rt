@@ -3,6 +3,7 @@ ghost use Rattle.mixers.specs.Exchange.{exchanged, exchange_mark, exchange_lawfu
 
 use crate::mixer::Mixer;
 use crate::state::State;
+use std::mem::swap;
 
 #[derive(Clone, Copy)]
 pub struct Exchange;
@@ -15,13 +16,7 @@ impl Mixer<16> for Exchange {
     ghost laws = { λ _. exchange_lawful };
 
     fn mix(&self, state: &mut State<16>) {
-        let upper = state.upper;
-        state.upper = state.lower;
-        state.lower = upper;
-    }
-
-    fn block_len(&self) -> usize {
-        16
+        swap(&mut state.upper, &mut state.lower);
     }
 
     fn mark(&self) -> u8 {

@@ -8,7 +8,7 @@ use crate::state::State;
 // A mixer's meaning is its block length `B`, its mark byte and one fixed function on states. Whatever is built on
 // mixers is proved from these three and their laws, so it holds of every mixer.
 pub trait Mixer<const B: usize> {
-    // the mark byte, by which what is sealed names its mixer
+    // the mark byte, by which what is sealed names its mixer; no enum, since whoever writes a mixer gives it a mark
     ghost mark_byte: { Self → ℕ };
 
     // the function on states
@@ -22,7 +22,10 @@ pub trait Mixer<const B: usize> {
         ensures { view state.new ≡ mixing self.now (view state.old) };
 
     fn block_len(&self) -> usize
-        ensures { result ≡ B };
+        ensures { result ≡ B }
+    {
+        B
+    }
 
     fn mark(&self) -> u8
         ensures { result ≡ mark_byte self.now };

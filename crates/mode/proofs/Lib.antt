@@ -1,3 +1,4 @@
+pub mod Admits
 pub mod Faith
 pub mod Judged
 pub mod Loops

@@ -10,7 +10,6 @@ use Rattle.mode.specs.Padding.{nonce_bits, trailer_number, trailer, pad_message,
 use Rattle.mode.specs.Sealing.{cipher_length}
 use Rattle.mode.specs.Opening.{message_answer}
 use Rattle.std.proofs.lemmas.Slice.Eq.{bytes_eq-Decides}
-use Rattle.mode.proofs.Widths.{some}
 use Rattle.mode.proofs.Pads.{length-trailer, length-message, length-pad_message, pad_message_is, blocks_hold}
 
 get_or-zeros : (k i : ℕ) → ◌≡◌ {A = ℕ} (get_or (replicate k 0) i 0) 0
@@ -179,10 +178,7 @@ pub record Ended (B ν α : ℕ) (p : List ℕ) (r : ℕ) : Type 0 where
   pub last : trailer B ν α (8 * (r - 13)) ≡ take (r - (r - 13)) (drop (r - 13) p)
 
 -- p is a padding just where it ends so; nonce and data have n and m bytes
-module _ (B n m : ℕ) (width : (B ≡ 16) ⊎ (B ≡ 32)) (hn : n ≤ 32) (hm : m ≤ data_most) (p : List ℕ) (r : ℕ) (zeros : drop r p ≡ replicate (length p - r) 0) where
-  full : 0 < B
-  full = some B width
-
+module _ (B n m : ℕ) (full : 0 < B) (hn : n ≤ 32) (hm : m ≤ data_most) (p : List ℕ) (r : ℕ) (zeros : drop r p ≡ replicate (length p - r) 0) where
   short : 8 * n ≤ 256
   short = omega arith
 

@@ -3,13 +3,13 @@ use Rattle.std.specs.Prelude.{ℕ, ◌+◌, ◌-◌, ◌*◌, ◌%◌, cond, ◌
 use Rattle.std.specs.Str.{bytes_eq}
 use Rattle.mixers.specs.Blocks.{over}
 use Rattle.mixers.specs.Halves.{Halves}
-use Rattle.mode.specs.Faults.{unless}
-use Rattle.mode.specs.Limits.{data_most, message_most}
+use Rattle.mode.specs.Faults.{unless, admit}
+use Rattle.mode.specs.Limits.{message_most}
 use Rattle.mode.specs.Padding.{unpadded}
 use Rattle.mode.specs.Sealing.{data_state, data_prev, tag_at}
 use Rattle.mode.specs.Steps.{open_step, all_out, all_state, all_prev}
 use Rattle.mode.specs.declared.fault.Fault.{Fault}
-use Rattle.mode.specs.declared.fault.Fault.TheVariants.{KeyLength, NonceTooLong, DataTooLong, CipherLength, BufferTooShort, NotAuthentic}
+use Rattle.mode.specs.declared.fault.Fault.TheVariants.{CipherLength, BufferTooShort, NotAuthentic}
 
 -- the blocks under C
 unfoldable pub opened_blocks : (Halves → Halves) → ℕ → List ℕ → List ℕ → List ℕ → List ℕ → List ℕ
@@ -30,15 +30,16 @@ judged B ν α expected T p = cond (bytes_eq expected T) (unpadded B ν α p) No
 unfoldable pub opens : (Halves → Halves) → ℕ → List ℕ → List ℕ → List ℕ → List ℕ → List ℕ → Option (List ℕ)
 opens f B K N A C T = judged B (8 * length N) (8 * length A) (opened_tag f B K N A C) T (opened_blocks f B K N A C)
 
--- from lengths alone, of key, nonce, data, ciphertext, tag and text buffer: the first refusal, if any
-abbrev pub open_check : ℕ → ℕ → ℕ → ℕ → ℕ → ℕ → ℕ → Result (Unit {0}) Fault
-open_check B k n a c t room =
-    unless (k == B) KeyLength (
-    unless (nat_le n B) NonceTooLong (
-    unless (nat_le a data_most) DataTooLong (
+-- from the lengths of ciphertext, tag and text buffer: the first refusal, if any
+abbrev pub cipher_check : ℕ → ℕ → ℕ → ℕ → Result (Unit {0}) Fault
+cipher_check B c t room =
     unless (t == B && (nat_lt 0 c && (c % B == 0 && nat_le c (message_most + B)))) CipherLength (
     unless (nat_le c room) BufferTooShort (
-    Ok tt)))))
+    Ok tt))
+
+-- from lengths alone, of key, nonce and data too
+abbrev pub open_check : ℕ → ℕ → ℕ → ℕ → ℕ → ℕ → ℕ → Result (Unit {0}) Fault
+open_check B k n a c t room = admit B k n a (cipher_check B c t room)
 
 -- the same, where the text buffer holds xs
 abbrev pub open_checked : ℕ → List ℕ → List ℕ → List ℕ → List ℕ → List ℕ → List ℕ → Result (Unit {0}) Fault

@@ -1,14 +1,14 @@
 -- What sealing gives for key K, nonce N, associated data A and message M, under the function f of a mixer with blocks of B bytes.
-use Rattle.std.specs.Prelude.{ℕ, ◌+◌, ◌*◌, List, ◌++◌, length, Ok, Err, Result, ◌==◌, nat_le}
+use Rattle.std.specs.Prelude.{ℕ, ◌+◌, ◌*◌, List, ◌++◌, length, Ok, Err, Result, nat_le}
 use Rattle.words.specs.Bytes.{xor_bytes}
 use Rattle.mixers.specs.Blocks.{over}
 use Rattle.mixers.specs.Halves.{Halves, halves}
-use Rattle.mode.specs.Faults.{unless}
-use Rattle.mode.specs.Limits.{data_most, message_most, trailer_length}
+use Rattle.mode.specs.Faults.{unless, admit}
+use Rattle.mode.specs.Limits.{message_most, trailer_length}
 use Rattle.mode.specs.Padding.{blocks_for, pad_nonce, pad_data, pad_message}
 use Rattle.mode.specs.Steps.{seal_step, all_out, all_state, all_prev}
 use Rattle.mode.specs.declared.fault.Fault.{Fault}
-use Rattle.mode.specs.declared.fault.Fault.TheVariants.{KeyLength, NonceTooLong, DataTooLong, MessageTooLong, BufferTooShort}
+use Rattle.mode.specs.declared.fault.Fault.TheVariants.{MessageTooLong, BufferTooShort}
 
 -- the state and the last block once nonce and data are in; the chain begins at x' = m₀ and x = K
 unfoldable pub data_state : (Halves → Halves) → ℕ → List ℕ → List ℕ → List ℕ → Halves
@@ -43,12 +43,10 @@ cipher_length B m = blocks_for B (m + trailer_length) * B
 -- from lengths alone, of key, nonce, data, message and output buffer: the first refusal, or the lengths of C and of C with T
 abbrev pub seal_lengths : ℕ → ℕ → ℕ → ℕ → ℕ → ℕ → Result (ℕ × ℕ) Fault
 seal_lengths B k n a m room =
-    unless (k == B) KeyLength (
-    unless (nat_le n B) NonceTooLong (
-    unless (nat_le a data_most) DataTooLong (
+    admit B k n a (
     unless (nat_le m message_most) MessageTooLong (
     unless (nat_le (cipher_length B m + B) room) BufferTooShort (
-    Ok (cipher_length B m, cipher_length B m + B))))))
+    Ok (cipher_length B m, cipher_length B m + B))))
 
 -- the answer, where the output buffer holds xs
 abbrev pub seal_answer : ℕ → List ℕ → List ℕ → List ℕ → List ℕ → List ℕ → Result (ℕ × ℕ) Fault

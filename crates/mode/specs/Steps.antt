@@ -2,8 +2,6 @@
 use Rattle.std.specs.Prelude.{ℕ, zero, suc, ◌/◌, List, ◌++◌, length, take, drop}
 use Rattle.words.specs.Bytes.{xor_bytes}
 use Rattle.mixers.specs.Halves.{Halves, halves}
-use Rattle.mode.specs.declared.way.Way.{Way}
-use Rattle.mode.specs.declared.way.Way.TheVariants.{Seal, Open}
 
 -- What one step gives: the next state, the block m of this step, and the block that is written in place of the one that stood there. A block m is one of padded data or message.
 pub record Turn : Type 0 where
@@ -29,10 +27,6 @@ seal_step f s prev m = turn (halves (xor_bytes (advanced f s prev).upper m) (adv
 -- the message block is y' ⊕ c, and the next state c‖(y ⊕ prev)
 abbrev pub open_step : (Halves → Halves) → Step
 open_step f s prev c = turn (halves c (advanced f s prev).lower) (xor_bytes (advanced f s prev).upper c) (xor_bytes (advanced f s prev).upper c)
-
-abbrev pub step_of : Way → (Halves → Halves) → Step
-step_of Seal f = seal_step f
-step_of Open f = open_step f
 
 -- the first k blocks of xs through the step g: xs with each block replaced, and what follows them as it was
 abbrev pub run_out : Step → ℕ → ℕ → Halves → List ℕ → List ℕ → List ℕ

@@ -1,17 +1,17 @@
 // The chain of mixings that data and message are taken through, block by block.
-ghost use Rattle.std.specs.Prelude.{◌≡◌, ◌*◌, ◌≤◌, length};
+ghost use Rattle.std.specs.Prelude.{◌≡◌, ◌<◌};
 ghost use Rattle.mixers.specs.View.{view};
-ghost use Rattle.mode.specs.Laws.{Admitted};
 ghost use Rattle.mode.specs.Padding.{pad_data};
 ghost use Rattle.mode.specs.Sealing.{tag_at, data_state, data_prev};
-ghost use Rattle.mode.specs.Steps.{advanced, seal_step, open_step, step_of, run_out, run_state, run_prev, all_state, all_prev};
+ghost use Rattle.mode.specs.Steps.{advanced, seal_step, open_step, all_out, all_state, all_prev};
 
-use crate::bytes::tail;
 use crate::padding::pad_rest;
+use crate::setting::Admitted;
 use crate::way::Way;
 use mixers::{Block, Mixer, State};
 
 // Where the chain stands: the state x'‖x, and the block before the next one, which is the nonce's before any other.
+// The mixer is passed to each step: as a field, each step would have to say that it stays.
 #[derive(Clone, Copy)]
 pub(crate) struct Chain<const B: usize> {
     pub(crate) state: State<B>,
@@ -29,7 +29,7 @@ impl<const B: usize> Chain<B> {
     }
 
     // Takes in a block of data or message; its ciphertext is then the upper block of the state.
-    fn absorb<M: Mixer<B>>(&mut self, mixer: &M, block: &Block<B>)
+    pub(crate) fn absorb<M: Mixer<B>>(&mut self, mixer: &M, block: &Block<B>)
         ensures state { view self.new.state ≡ (seal_step (M.mixing mixer.now) (view self.old.state) self.old.prev.bytes block.now.bytes).state }
         ensures prev { self.new.prev.bytes ≡ block.now.bytes }
     {
@@ -39,7 +39,7 @@ impl<const B: usize> Chain<B> {
     }
 
     // Takes in a block of ciphertext; its message block is then the block before.
-    fn recover<M: Mixer<B>>(&mut self, mixer: &M, block: &Block<B>)
+    pub(crate) fn recover<M: Mixer<B>>(&mut self, mixer: &M, block: &Block<B>)
         ensures state { view self.new.state ≡ (open_step (M.mixing mixer.now) (view self.old.state) self.old.prev.bytes block.now.bytes).state }
         ensures prev { self.new.prev.bytes ≡ (open_step (M.mixing mixer.now) (view self.old.state) self.old.prev.bytes block.now.bytes).prev }
     {
@@ -50,101 +50,63 @@ impl<const B: usize> Chain<B> {
         self.prev = message;
     }
 
-    // Takes in the block that stands in `place`, and writes there what it becomes: ciphertext or message.
-    fn turn<M: Mixer<B>>(&mut self, mixer: &M, way: Way, place: &mut [u8])
-        requires { length place.old ≡ B }
-        ensures state { view self.new.state ≡ (step_of way (M.mixing mixer.now) (view self.old.state) self.old.prev.bytes place.old).state }
-        ensures prev { self.new.prev.bytes ≡ (step_of way (M.mixing mixer.now) (view self.old.state) self.old.prev.bytes place.old).prev }
-        ensures block { place.new ≡ (step_of way (M.mixing mixer.now) (view self.old.state) self.old.prev.bytes place.old).block }
+    // Takes in the whole blocks of `text`, and writes in their places what they become.
+    pub(crate) fn turn_all<W: Way<B>, M: Mixer<B>>(&mut self, mixer: &M, text: &mut [u8])
+        requires { 0 < B }
+        ensures out { text.new ≡ all_out (W.step (M.mixing mixer.now)) B (view self.old.state) self.old.prev.bytes text.old }
+        ensures state { view self.new.state ≡ all_state (W.step (M.mixing mixer.now)) B (view self.old.state) self.old.prev.bytes text.old }
+        ensures prev { self.new.prev.bytes ≡ all_prev (W.step (M.mixing mixer.now)) B (view self.old.state) self.old.prev.bytes text.old }
     {
-        let block = Block::of(place);
-        match way {
-            Way::Seal => {
-                self.absorb(mixer, &block);
-                let cipher = self.state.upper;
-                place.copy_from_slice(&cipher.bytes);
-            }
-            Way::Open => {
-                self.recover(mixer, &block);
-                let message = self.prev;
-                place.copy_from_slice(&message.bytes);
-            }
-        }
-    }
-
-    // The same for the `count` blocks at the front of `text`.
-    pub(crate) fn turn_all<M: Mixer<B>>(
-        &mut self,
-        mixer: &M,
-        way: Way,
-        text: &mut [u8],
-        count: usize,
-    )
-        requires { count * B ≤ length text.old }
-        ensures out { text.new ≡ run_out (step_of way (M.mixing mixer.now)) B count (view self.old.state) self.old.prev.bytes text.old }
-        ensures state { view self.new.state ≡ run_state (step_of way (M.mixing mixer.now)) B count (view self.old.state) self.old.prev.bytes text.old }
-        ensures prev { self.new.prev.bytes ≡ run_prev (step_of way (M.mixing mixer.now)) B count (view self.old.state) self.old.prev.bytes text.old }
-    {
-        for i in 0..count {
-            let at = i * B;
-            self.turn(mixer, way, &mut text[at..at + B]);
-        }
-    }
-
-    // Takes in the `count` blocks at the front of `bytes`.
-    fn absorb_all<M: Mixer<B>>(&mut self, mixer: &M, bytes: &[u8], count: usize)
-        requires { count * B ≤ length bytes.now }
-        ensures state { view self.new.state ≡ run_state (seal_step (M.mixing mixer.now)) B count (view self.old.state) self.old.prev.bytes bytes.now }
-        ensures prev { self.new.prev.bytes ≡ run_prev (seal_step (M.mixing mixer.now)) B count (view self.old.state) self.old.prev.bytes bytes.now }
-    {
-        for i in 0..count {
-            let at = i * B;
-            let block = Block::of(&bytes[at..at + B]);
-            self.absorb(mixer, &block);
+        // by index: a proof knows nothing of what is written through `chunks_exact_mut`
+        for i in 0..text.len() / B {
+            let place = &mut text[i * B..i * B + B];
+            let turned = W::turn(self, mixer, &Block::of(place));
+            place.copy_from_slice(&turned.bytes);
         }
     }
 
     // Takes in the associated data, padded.
     fn absorb_data<M: Mixer<B>>(&mut self, mixer: &M, ad: &[u8])
+        requires { 0 < B }
         ensures state { view self.new.state ≡ all_state (seal_step (M.mixing mixer.now)) B (view self.old.state) self.old.prev.bytes (pad_data B ad.now) }
         ensures prev { self.new.prev.bytes ≡ all_prev (seal_step (M.mixing mixer.now)) B (view self.old.state) self.old.prev.bytes (pad_data B ad.now) }
     {
-        if ad.len() > 0 {
-            let whole = ad.len() / B;
-            self.absorb_all(mixer, ad, whole);
-            let last = pad_rest(tail(ad, whole * B));
+        if !ad.is_empty() {
+            let blocks = ad.chunks_exact(B);
+            let last = pad_rest(blocks.remainder());
+            for block in blocks {
+                self.absorb(mixer, &Block::of(block));
+            }
             self.absorb(mixer, &last);
         }
     }
 
     // The chain once key, nonce and data are in.
-    pub(crate) fn begin<M: Mixer<B>>(mixer: &M, key: &[u8], nonce: &[u8], ad: &[u8]) -> Self
-        requires { Admitted B key.now nonce.now ad.now }
-        ensures state { view result.state ≡ data_state (M.mixing mixer.now) B key.now nonce.now ad.now }
-        ensures prev { result.prev.bytes ≡ data_prev (M.mixing mixer.now) B key.now nonce.now ad.now }
+    pub(crate) fn begin<M: Mixer<B>>(mixer: &M, under: &Admitted<B>) -> Self
+        ensures state { let s = under.now.setting in view result.state ≡ data_state (M.mixing mixer.now) B s.key.now s.nonce.now s.ad.now }
+        ensures prev { let s = under.now.setting in result.prev.bytes ≡ data_prev (M.mixing mixer.now) B s.key.now s.nonce.now s.ad.now }
     {
         let state = State {
-            upper: Block::of(nonce),
-            lower: Block::of(key),
+            upper: Block::of(under.setting.nonce),
+            lower: Block::of(under.setting.key),
         };
         let mut chain = Chain {
             state,
             prev: state.upper,
         };
-        chain.absorb_data(mixer, ad);
+        chain.absorb_data(mixer, under.setting.ad);
         chain
     }
 
     // The tag, after the last block.
-    pub(crate) fn tag<M: Mixer<B>>(&self, mixer: &M, key: &[u8]) -> Block<B>
-        requires { length key.now ≡ B }
-        ensures { result.bytes ≡ tag_at (M.mixing mixer.now) key.now (view self.now.state) self.now.prev.bytes }
+    pub(crate) fn tag<M: Mixer<B>>(&self, mixer: &M, under: &Admitted<B>) -> Block<B>
+        ensures { result.bytes ≡ tag_at (M.mixing mixer.now) under.now.setting.key.now (view self.now.state) self.now.prev.bytes }
     {
         let mut state = self.state;
         mixer.mix(&mut state);
         let mut tag = state.lower;
         tag.xor(&self.prev);
-        tag.xor(&Block::of(key));
+        tag.xor(&Block::of(under.setting.key));
         tag
     }
 }

@@ -1,8 +1,11 @@
 // Why a sealing or an opening is refused, in the order in which it is judged.
-ghost use Rattle.std.specs.Prelude.{◌≡◌};
-ghost use Rattle.mode.specs.Faults.{code_of};
+ghost use Rattle.std.specs.Prelude.{◌≡◌, Some};
+ghost use Rattle.mode.specs.Faults.{code_of, text_of};
 
-#[derive(Clone, Copy, Debug)]
+use std::error::Error;
+use std::fmt;
+
+#[derive(Clone, Copy, Debug, PartialEq, Eq)]
 pub enum Fault {
     // the key is not one block long
     KeyLength,
@@ -21,7 +24,8 @@ pub enum Fault {
 }
 
 impl Fault {
-    // The number that stands for the refusal outside of the program.
+    // The number that stands for the refusal outside of the program. As the enum's discriminants the codes would be no
+    // plainer, and a reader would not see that they are fixed.
     pub fn code(self) -> u8
         ensures { result ≡ code_of self }
     {
@@ -36,3 +40,21 @@ impl Fault {
         }
     }
 }
+
+impl fmt::Display for Fault {
+    ghost output = { λ fault. Some (text_of fault) };
+
+    fn fmt<W: fmt::Write>(&self, f: &mut fmt::Formatter<W>) -> fmt::Result {
+        f.write_str(match self {
+            Fault::KeyLength => "the key is not one block long",
+            Fault::NonceTooLong => "the nonce is longer than one block",
+            Fault::DataTooLong => "the associated data is longer than 4,096 bytes",
+            Fault::MessageTooLong => "the message is longer than 65,536 bytes",
+            Fault::CipherLength => "ciphertext or tag has a length that no sealing gives",
+            Fault::BufferTooShort => "the buffer to write into is too short",
+            Fault::NotAuthentic => "tag or padding is wrong",
+        })
+    }
+}
+
+impl Error for Fault {}

@@ -1,38 +1,32 @@
 // The guard over a text that is not yet known to be authentic.
-ghost use Rattle.std.specs.Prelude.{◌≡◌, ◌≤◌, ◌++◌, length, take, drop, replicate};
+ghost use Rattle.std.specs.Prelude.{◌≡◌, length, replicate};
 
-use crate::bytes::zero;
-
-// Holds the text buffer. Unless it is released, the first `written` bytes of the buffer are zeros after it, whichever
-// way the function that holds it ends.
+// Holds the text. Unless it is released, the text is zeros after it, whichever way the function that holds it ends.
 pub(crate) struct WipeGuard<'a> {
-    pub(crate) buf: &'a mut [u8],
-    pub(crate) written: usize,
+    pub(crate) text: &'a mut [u8],
 }
 
 impl Drop for WipeGuard<'_> {
     fn drop(self)
-        requires { self.written ≤ length self.buf.now }
-        ensures { self.exit.0.now ≡ replicate self.entry.written 0 ++ drop self.entry.written self.entry.buf.now }
+        ensures { self.exit.0.now ≡ replicate (length self.entry.text.now) 0 }
     {
-        let WipeGuard { buf, written } = self;
-        zero(buf, 0, written);
+        let WipeGuard { text } = self;
+        text.fill(0);
     }
 }
 
 impl WipeGuard<'_> {
-    // The part that it would wipe.
+    // The text, to be read.
     pub(crate) fn text(&self) -> &[u8]
-        requires { self.now.written ≤ length self.now.buf.now }
-        ensures { result.now ≡ take self.now.written self.now.buf.now }
+        ensures { result.now ≡ self.now.text.now }
     {
-        &self.buf[0..self.written]
+        self.text
     }
 
-    // Lets the buffer go as it is.
+    // Lets the text go as it is.
     pub(crate) fn release(self)
-        ensures { self.exit.0.now ≡ self.entry.buf.now }
+        ensures { self.exit.0.now ≡ self.entry.text.now }
     {
-        let WipeGuard { buf: _, written: _ } = self;
+        let WipeGuard { text: _ } = self;
     }
 }

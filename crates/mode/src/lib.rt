@@ -9,8 +9,10 @@ mod limits;
 mod opening;
 mod padding;
 mod sealing;
+mod setting;
 mod way;
 
 pub use fault::Fault;
 pub use opening::open;
 pub use sealing::seal;
+pub use setting::Setting;

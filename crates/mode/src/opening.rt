@@ -1,85 +1,89 @@
 // Opening.
-ghost use Rattle.std.specs.Prelude.{◌≡◌, ◌*◌, ◌%◌, ◌≤◌, ◌⊎◌, length};
-ghost use Rattle.mixers.specs.Blocks.{over};
-ghost use Rattle.mode.specs.Laws.{Admitted, OpensSealed};
-ghost use Rattle.mode.specs.Limits.{data_most};
-ghost use Rattle.mode.specs.Opening.{opened_blocks, opened_tag, judged, message_answer, open_check, open_answer, open_leaves};
+ghost use Rattle.std.specs.Prelude.{◌≡◌, ◌*◌, ◌≤◌, length, IfOk};
+ghost use Rattle.mode.specs.Laws.{OpensSealed};
+ghost use Rattle.mode.specs.Opening.{opened_blocks, opened_tag, judged, opens, message_answer, message_text, cipher_check, open_answer, open_leaves};
 
-use crate::bytes::{put, same, zero};
+use crate::bytes::same;
 use crate::chain::Chain;
 use crate::fault::Fault;
 use crate::guard::WipeGuard;
-use crate::limits::{DATA_MOST, MESSAGE_MOST};
+use crate::limits::MESSAGE_MOST;
 use crate::padding::message_len;
-use crate::way::Way;
+use crate::setting::{Admitted, Setting};
+use crate::way::Opening;
 use mixers::{Block, Mixer};
 
-// The first refusal from lengths alone, of key, nonce, data, ciphertext, tag and text buffer.
-fn check_lengths<const B: usize>(
-    key: usize,
-    nonce: usize,
-    ad: usize,
-    cipher: usize,
-    tag: usize,
-    room: usize,
-) -> Result<(), Fault>
-    requires { (B ≡ 16) ⊎ (B ≡ 32) }
-    ensures { result ≡ open_check B key nonce ad cipher tag room }
-{
-    if key != B {
-        return Err(Fault::KeyLength);
+impl<const B: usize> Admitted<'_, B> {
+    // The first refusal from the lengths of ciphertext, tag and text buffer, if any.
+    fn check_lengths(&self, cipher: usize, tag: usize, room: usize) -> Result<(), Fault>
+        ensures { result ≡ cipher_check B cipher tag room }
+    {
+        if tag != B || cipher == 0 || cipher % B != 0 || cipher > MESSAGE_MOST + B {
+            return Err(Fault::CipherLength);
+        }
+        if room < cipher {
+            return Err(Fault::BufferTooShort);
+        }
+        Ok(())
     }
-    if nonce > B {
-        return Err(Fault::NonceTooLong);
-    }
-    if ad > DATA_MOST {
-        return Err(Fault::DataTooLong);
-    }
-    if tag != B || cipher == 0 || cipher % B != 0 || cipher > MESSAGE_MOST + B {
-        return Err(Fault::CipherLength);
-    }
-    if room < cipher {
-        return Err(Fault::BufferTooShort);
-    }
-    Ok(())
 }
 
-// Writes the blocks under C at the front of `text`, and answers the tag that C should have.
+// Writes the blocks under C into `text`, and answers the tag that C should have.
 fn write_opened<const B: usize, M: Mixer<B>>(
     mixer: &M,
-    key: &[u8],
-    nonce: &[u8],
-    ad: &[u8],
+    under: &Admitted<B>,
     cipher: &[u8],
     text: &mut [u8],
 ) -> Block<B>
-    requires { (Admitted B key.now nonce.now ad.now) × (length cipher.now ≤ length text.old) }
-    ensures tag { result.bytes ≡ opened_tag (M.mixing mixer.now) B key.now nonce.now ad.now cipher.now }
-    ensures text { text.new ≡ over (opened_blocks (M.mixing mixer.now) B key.now nonce.now ad.now cipher.now) text.old }
+    requires { length text.old ≡ length cipher.now }
+    ensures tag { let s = under.now.setting in result.bytes ≡ opened_tag (M.mixing mixer.now) B s.key.now s.nonce.now s.ad.now cipher.now }
+    ensures text { let s = under.now.setting in text.new ≡ opened_blocks (M.mixing mixer.now) B s.key.now s.nonce.now s.ad.now cipher.now }
 {
-    let mut chain = Chain::begin(mixer, key, nonce, ad);
-    put(text, 0, cipher);
-    chain.turn_all(mixer, Way::Open, text, cipher.len() / B);
-    chain.tag(mixer, key)
+    let mut chain = Chain::begin(mixer, under);
+    text.copy_from_slice(cipher);
+    chain.turn_all::<Opening, M>(mixer, text);
+    chain.tag(mixer, under)
 }
 
 // The length of the message in the opened blocks `text`, if the tag is right and they are its padding. The tag comes
 // first: the padding of a text that is not authentic is never read.
 fn judge<const B: usize>(
+    under: &Admitted<B>,
     expected: &Block<B>,
     tag: &[u8],
-    nonce: usize,
-    ad: usize,
     text: &[u8],
 ) -> Result<usize, Fault>
-    requires { ((B ≡ 16) ⊎ (B ≡ 32)) × ((length tag.now ≡ B) × ((nonce ≤ 32) × (ad ≤ data_most))) }
-    ensures { result ≡ message_answer (judged B (8 * nonce) (8 * ad) expected.now.bytes tag.now text.now) }
+    requires { length tag.now ≡ B }
+    ensures answer { let s = under.now.setting in result ≡ message_answer (judged B (8 * length s.nonce.now) (8 * length s.ad.now) expected.now.bytes tag.now text.now) }
+    ensures within { IfOk result (λ len. len ≤ length text.now) }
 {
     if same(&expected.bytes, tag) {
-        message_len::<B>(nonce, ad, text)
+        message_len(under, text)
     } else {
         Err(Fault::NotAuthentic)
     }
+}
+
+// Opens C and T into `text`, which is as long as C. A guard stands over it, since the text is not yet known to be
+// authentic.
+fn open_guarded<const B: usize, M: Mixer<B>>(
+    mixer: &M,
+    under: &Admitted<B>,
+    cipher: &[u8],
+    tag: &[u8],
+    text: &mut [u8],
+) -> Result<usize, Fault>
+    requires text { length text.old ≡ length cipher.now }
+    requires tag { length tag.now ≡ B }
+    ensures answer { let s = under.now.setting in result ≡ message_answer (opens (M.mixing mixer.now) B s.key.now s.nonce.now s.ad.now cipher.now tag.now) }
+    ensures text { let s = under.now.setting in text.new ≡ message_text (length cipher.now) (opens (M.mixing mixer.now) B s.key.now s.nonce.now s.ad.now cipher.now tag.now) }
+{
+    let guard = WipeGuard { text };
+    let expected = write_opened(mixer, under, cipher, guard.text);
+    let len = judge(under, &expected, tag, guard.text())?;
+    guard.text[len..].fill(0);
+    guard.release();
+    Ok(len)
 }
 
 // Opens ciphertext C and tag T: writes the message at the front of `text` and zeros after it up to the length of C,
@@ -87,30 +91,16 @@ fn judge<const B: usize>(
 // writes nothing.
 pub fn open<const B: usize, M: Mixer<B>>(
     mixer: &M,
-    key: &[u8],
-    nonce: &[u8],
-    ad: &[u8],
+    setting: Setting,
     cipher: &[u8],
     tag: &[u8],
     text: &mut [u8],
 ) -> Result<usize, Fault>
-    ensures answer { result ≡ open_answer (M.mixing mixer.now) B key.now nonce.now ad.now cipher.now tag.now text.old }
-    ensures buffer { text.new ≡ open_leaves (M.mixing mixer.now) B key.now nonce.now ad.now cipher.now tag.now text.old }
-    ensures exactly { OpensSealed (M.mixing mixer.now) B key.now nonce.now ad.now cipher.now tag.now text.old result text.new }
+    ensures answer { let s = setting.entry in result ≡ open_answer (M.mixing mixer.now) B s.key.now s.nonce.now s.ad.now cipher.now tag.now text.old }
+    ensures buffer { let s = setting.entry in text.new ≡ open_leaves (M.mixing mixer.now) B s.key.now s.nonce.now s.ad.now cipher.now tag.now text.old }
+    ensures exactly { let s = setting.entry in OpensSealed (M.mixing mixer.now) B s.key.now s.nonce.now s.ad.now cipher.now tag.now text.old result text.new }
 {
-    let written = cipher.len();
-    check_lengths::<B>(
-        key.len(),
-        nonce.len(),
-        ad.len(),
-        written,
-        tag.len(),
-        text.len(),
-    )?;
-    let guard = WipeGuard { buf: text, written };
-    let expected = write_opened(mixer, key, nonce, ad, cipher, guard.buf);
-    let len = judge(&expected, tag, nonce.len(), ad.len(), guard.text())?;
-    zero(guard.buf, len, written);
-    guard.release();
-    Ok(len)
+    let under = Admitted::new(mixer, setting)?;
+    under.check_lengths(cipher.len(), tag.len(), text.len())?;
+    open_guarded(mixer, &under, cipher, tag, &mut text[..cipher.len()])
 }

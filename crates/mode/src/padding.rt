@@ -1,15 +1,74 @@
 // Bringing data and message to whole blocks, and reading a message back.
-ghost use Rattle.std.specs.Prelude.{◌≡◌, ◌+◌, ◌-◌, ◌*◌, ◌<◌, ◌≤◌, ◌⊎◌, ◌∷◌, ◌++◌, length, drop, replicate, ◌≢◌, slice_index};
-ghost use Rattle.words.specs.Bytes.{low_bytes};
-ghost use Rattle.mode.specs.Limits.{data_most, message_most, trailer_length};
+ghost use Rattle.std.specs.Prelude.{◌≡◌, ◌+◌, ◌-◌, ◌*◌, ◌<◌, ◌≤◌, ◌∷◌, ◌++◌, length, drop, replicate, ◌≢◌, slice_index, MatchResult, IfOk};
+ghost use Rattle.mode.specs.Limits.{message_most};
 ghost use Rattle.mode.specs.Opening.{message_answer};
-ghost use Rattle.mode.specs.Padding.{trailer_number, trailer as trailer_bytes, pad_message, unpadded};
+ghost use Rattle.mode.specs.Padding.{trailer_number as number_of, trailer as trailer_of, pad_message, unpadded};
 ghost use Rattle.mode.specs.Sealing.{cipher_length};
 
-use crate::bytes::{put, same, zero};
+use crate::bytes::same;
 use crate::fault::Fault;
 use crate::limits::{MESSAGE_MOST, TRAILER};
+use crate::setting::Admitted;
 use mixers::Block;
+
+// A message that can be sealed under a setting.
+#[derive(Clone, Copy)]
+pub(crate) struct Message<'a, const B: usize> {
+    pub(crate) under: Admitted<'a, B>,
+    pub(crate) bytes: &'a [u8],
+    ghost short: { length bytes.now ≤ message_most },
+}
+
+impl<'a, const B: usize> Message<'a, B> {
+    // Refused where it is too long.
+    pub(crate) fn new(under: Admitted<'a, B>, bytes: &'a [u8]) -> Result<Self, Fault>
+        ensures { MatchResult result (λ message. (message.under ≡ under.entry) × (message.bytes.now ≡ bytes.now)) (λ e. (message_most < length bytes.now) × (e ≡ Fault.MessageTooLong)) }
+    {
+        if bytes.len() > MESSAGE_MOST {
+            return Err(Fault::MessageTooLong);
+        }
+        Ok(Message { under, bytes })
+    }
+
+    // The length of its ciphertext.
+    pub(crate) fn cipher_len(&self) -> usize
+        ensures { result ≡ cipher_length B (length self.now.bytes.now) }
+    {
+        (self.bytes.len() + TRAILER + (B - 1)) / B * B
+    }
+
+    // The number in its trailer.
+    fn trailer_number(&self) -> u128
+        ensures { let s = self.now.under.setting in result ≡ number_of B (8 * length s.nonce.now) (8 * length s.ad.now) (8 * length self.now.bytes.now) }
+    {
+        let nonce = self.under.setting.nonce.len() as u128 * 8;
+        let ad = self.under.setting.ad.len() as u128 * 8;
+        let message = self.bytes.len() as u128 * 8;
+        let unit = if B == 16 { 256 } else { 512 };
+        nonce + unit * (ad + (1 << 24) * (message + (1 << 64)))
+    }
+
+    // Its trailer: the 13 low bytes of that number.
+    fn trailer(&self) -> [u8; TRAILER]
+        ensures { let s = self.now.under.setting in result ≡ trailer_of B (8 * length s.nonce.now) (8 * length s.ad.now) (8 * length self.now.bytes.now) }
+    {
+        let mut trailer = [0; TRAILER];
+        trailer.copy_from_slice(&self.trailer_number().to_le_bytes()[..TRAILER]);
+        trailer
+    }
+
+    // Writes it, padded, over the whole of `out`.
+    pub(crate) fn pad(&self, out: &mut [u8])
+        requires { length out.old ≡ cipher_length B (length self.now.bytes.now) }
+        ensures { let s = self.now.under.setting in out.new ≡ pad_message B (8 * length s.nonce.now) (8 * length s.ad.now) self.now.bytes.now }
+    {
+        let (message, rest) = out.split_at_mut(self.bytes.len());
+        let (trailer, zeros) = rest.split_at_mut(TRAILER);
+        message.copy_from_slice(self.bytes);
+        trailer.copy_from_slice(&self.trailer());
+        zeros.fill(0);
+    }
+}
 
 // The last block of padded data: `rest`, the byte 1, and zeros.
 pub(crate) fn pad_rest<const B: usize>(rest: &[u8]) -> Block<B>
@@ -21,89 +80,31 @@ pub(crate) fn pad_rest<const B: usize>(rest: &[u8]) -> Block<B>
     block
 }
 
-// The length of the ciphertext for a message of `message` bytes.
-pub(crate) fn cipher_len<const B: usize>(message: usize) -> usize
-    requires { ((B ≡ 16) ⊎ (B ≡ 32)) × (message ≤ message_most) }
-    ensures { result ≡ cipher_length B message }
-{
-    (message + TRAILER + (B - 1)) / B * B
-}
-
-// The 13 low bytes of a number, the lowest first.
-fn low_bytes(mut number: u128) -> [u8; TRAILER]
-    ensures { result ≡ low_bytes trailer_length number }
-{
-    let mut bytes = [0; TRAILER];
-    for i in 0..TRAILER {
-        bytes[i] = (number % 256) as u8;
-        number /= 256;
-    }
-    bytes
-}
-
-// The number in a trailer, from the lengths of nonce, data and message in bytes.
-fn trailer_number<const B: usize>(nonce: usize, ad: usize, message: usize) -> u128
-    requires { (nonce ≤ 32) × ((ad ≤ data_most) × (message ≤ message_most)) }
-    ensures { result ≡ trailer_number B (8 * nonce) (8 * ad) (8 * message) }
-{
-    let high = ad as u128 * 8 + (1 << 24) * (message as u128 * 8 + (1 << 64));
-    let unit = if B == 16 { 256 } else { 512 };
-    nonce as u128 * 8 + unit * high
-}
-
-// The trailer, from the same lengths.
-fn trailer<const B: usize>(nonce: usize, ad: usize, message: usize) -> [u8; TRAILER]
-    requires { (nonce ≤ 32) × ((ad ≤ data_most) × (message ≤ message_most)) }
-    ensures { result ≡ trailer_bytes B (8 * nonce) (8 * ad) (8 * message) }
-{
-    low_bytes(trailer_number::<B>(nonce, ad, message))
-}
-
-// Writes the padded message at the front of `out`.
-pub(crate) fn pad_message<const B: usize>(nonce: usize, ad: usize, message: &[u8], out: &mut [u8])
-    requires { ((B ≡ 16) ⊎ (B ≡ 32)) × ((nonce ≤ 32) × ((ad ≤ data_most) × ((length message.now ≤ message_most) × (cipher_length B (length message.now) ≤ length out.old)))) }
-    ensures { out.new ≡ pad_message B (8 * nonce) (8 * ad) message.now ++ drop (cipher_length B (length message.now)) out.old }
-{
-    let end = message.len() + TRAILER;
-    put(out, 0, message);
-    put(out, message.len(), &trailer::<B>(nonce, ad, message.len()));
-    zero(out, end, cipher_len::<B>(message.len()));
-}
-
 // The place behind the last byte that is not zero, or 0 where all are.
 fn reach(text: &[u8]) -> usize
     ensures within { result ≤ length text.now }
     ensures zeros { drop result text.now ≡ replicate (length text.now - result) 0 }
     ensures last { 0 < result → slice_index text.now (result - 1) ≢ 0 }
 {
-    let mut end = text.len();
-    while end > 0 {
-        if text[end - 1] != 0 {
-            return end;
-        }
-        end -= 1;
-    }
-    end
+    text.iter()
+        .rposition(|byte| *byte != 0)
+        .map_or(0, |last| last + 1)
 }
 
 // The length of the message whose padding is `text`. A trailer's last byte is not zero, so only one length is possible.
-pub(crate) fn message_len<const B: usize>(
-    nonce: usize,
-    ad: usize,
-    text: &[u8],
-) -> Result<usize, Fault>
-    requires { ((B ≡ 16) ⊎ (B ≡ 32)) × ((nonce ≤ 32) × (ad ≤ data_most)) }
-    ensures { result ≡ message_answer (unpadded B (8 * nonce) (8 * ad) text.now) }
+pub(crate) fn message_len<const B: usize>(under: &Admitted<B>, text: &[u8]) -> Result<usize, Fault>
+    ensures answer { let s = under.now.setting in result ≡ message_answer (unpadded B (8 * length s.nonce.now) (8 * length s.ad.now) text.now) }
+    ensures within { IfOk result (λ len. len ≤ length text.now) }
 {
     let end = reach(text);
-    if end < TRAILER || end > MESSAGE_MOST + TRAILER {
+    if end < TRAILER {
         return Err(Fault::NotAuthentic);
     }
     let len = end - TRAILER;
-    if text.len() != cipher_len::<B>(len) {
+    let Ok(message) = Message::new(*under, &text[..len]) else {
         return Err(Fault::NotAuthentic);
-    }
-    if same(&trailer::<B>(nonce, ad, len), &text[len..end]) {
+    };
+    if text.len() == message.cipher_len() && same(&message.trailer(), &text[len..end]) {
         Ok(len)
     } else {
         Err(Fault::NotAuthentic)

@@ -1,83 +1,46 @@
 // Sealing.
-ghost use Rattle.std.specs.Prelude.{◌≡◌, ◌+◌, ◌≤◌, ◌⊎◌, ◌++◌, length, IfOk};
+ghost use Rattle.std.specs.Prelude.{◌≡◌, ◌+◌, ◌≤◌, ◌++◌, length, IfOk};
 ghost use Rattle.mixers.specs.Blocks.{over};
-ghost use Rattle.mode.specs.Laws.{Admitted, OpensAgain};
-ghost use Rattle.mode.specs.Limits.{message_most};
-ghost use Rattle.mode.specs.Sealing.{cipher_text, cipher_tag, cipher_length, seal_lengths, seal_answer, seal_leaves};
+ghost use Rattle.mode.specs.Laws.{OpensAgain};
+ghost use Rattle.mode.specs.Sealing.{cipher_text, cipher_tag, cipher_length, seal_answer, seal_leaves};
 
-use crate::bytes::put;
 use crate::chain::Chain;
 use crate::fault::Fault;
-use crate::limits::{DATA_MOST, MESSAGE_MOST};
-use crate::padding::{cipher_len, pad_message};
-use crate::way::Way;
+use crate::padding::Message;
+use crate::setting::{Admitted, Setting};
+use crate::way::Sealing;
 use mixers::Mixer;
 
-// The lengths of C and of C with T, or the first refusal, from the lengths of key, nonce, data, message and buffer.
-fn seal_lengths<const B: usize>(
-    key: usize,
-    nonce: usize,
-    ad: usize,
-    message: usize,
-    room: usize,
-) -> Result<(usize, usize), Fault>
-    requires { (B ≡ 16) ⊎ (B ≡ 32) }
-    ensures { result ≡ seal_lengths B key nonce ad message room }
-{
-    if key != B {
-        return Err(Fault::KeyLength);
-    }
-    if nonce > B {
-        return Err(Fault::NonceTooLong);
-    }
-    if ad > DATA_MOST {
-        return Err(Fault::DataTooLong);
-    }
-    if message > MESSAGE_MOST {
-        return Err(Fault::MessageTooLong);
-    }
-    let cipher = cipher_len::<B>(message);
-    if room < cipher + B {
-        return Err(Fault::BufferTooShort);
-    }
-    Ok((cipher, cipher + B))
-}
-
 // Writes C and T at the front of `out`.
-fn write_sealed<const B: usize, M: Mixer<B>>(
-    mixer: &M,
-    key: &[u8],
-    nonce: &[u8],
-    ad: &[u8],
-    message: &[u8],
-    out: &mut [u8],
-)
-    requires { (Admitted B key.now nonce.now ad.now) × ((length message.now ≤ message_most) × (cipher_length B (length message.now) + B ≤ length out.old)) }
-    ensures { out.new ≡ over (cipher_text (M.mixing mixer.now) B key.now nonce.now ad.now message.now ++ cipher_tag (M.mixing mixer.now) B key.now nonce.now ad.now message.now) out.old }
+fn write_sealed<const B: usize, M: Mixer<B>>(mixer: &M, message: &Message<B>, out: &mut [u8])
+    requires { cipher_length B (length message.now.bytes.now) + B ≤ length out.old }
+    ensures { let s = message.now.under.setting in out.new ≡ over (cipher_text (M.mixing mixer.now) B s.key.now s.nonce.now s.ad.now message.now.bytes.now ++ cipher_tag (M.mixing mixer.now) B s.key.now s.nonce.now s.ad.now message.now.bytes.now) out.old }
 {
-    let cipher = cipher_len::<B>(message.len());
-    let mut chain = Chain::begin(mixer, key, nonce, ad);
-    pad_message::<B>(nonce.len(), ad.len(), message, out);
-    chain.turn_all(mixer, Way::Seal, out, cipher / B);
-    let tag = chain.tag(mixer, key);
-    put(out, cipher, &tag.bytes);
+    let mut chain = Chain::begin(mixer, &message.under);
+    let (cipher, rest) = out.split_at_mut(message.cipher_len());
+    message.pad(cipher);
+    chain.turn_all::<Sealing, M>(mixer, cipher);
+    let tag = chain.tag(mixer, &message.under);
+    rest[..B].copy_from_slice(&tag.bytes);
 }
 
-// Seals `message` with the associated data `ad`: writes ciphertext C and tag T at the front of `out`, and answers two
-// lengths, of C and of C with T. A refusal writes nothing.
+// Seals `message`: writes ciphertext C and tag T at the front of `out`, and answers two lengths, of C and of C with T.
+// A refusal writes nothing.
 pub fn seal<const B: usize, M: Mixer<B>>(
     mixer: &M,
-    key: &[u8],
-    nonce: &[u8],
-    ad: &[u8],
+    setting: Setting,
     message: &[u8],
     out: &mut [u8],
 ) -> Result<(usize, usize), Fault>
-    ensures answer { result ≡ seal_answer B key.now nonce.now ad.now message.now out.old }
-    ensures buffer { out.new ≡ seal_leaves (M.mixing mixer.now) B key.now nonce.now ad.now message.now out.old }
-    ensures again { IfOk result (OpensAgain (M.mixing mixer.now) B key.now nonce.now ad.now message.now) }
+    ensures answer { let s = setting.entry in result ≡ seal_answer B s.key.now s.nonce.now s.ad.now message.now out.old }
+    ensures buffer { let s = setting.entry in out.new ≡ seal_leaves (M.mixing mixer.now) B s.key.now s.nonce.now s.ad.now message.now out.old }
+    ensures again { let s = setting.entry in IfOk result (OpensAgain (M.mixing mixer.now) B s.key.now s.nonce.now s.ad.now message.now) }
 {
-    let lengths = seal_lengths::<B>(key.len(), nonce.len(), ad.len(), message.len(), out.len())?;
-    write_sealed(mixer, key, nonce, ad, message, out);
-    Ok(lengths)
+    let message = Message::new(Admitted::new(mixer, setting)?, message)?;
+    let cipher = message.cipher_len();
+    if out.len() < cipher + B {
+        return Err(Fault::BufferTooShort);
+    }
+    write_sealed(mixer, &message, out);
+    Ok((cipher, cipher + B))
 }

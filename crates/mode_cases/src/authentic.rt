@@ -1,7 +1,7 @@
 // What opens and what does not: a worked example, and copies of it in which one thing is changed.
-use crate::parts::{UNTOUCHED, all_are, front};
+use crate::parts::{UNTOUCHED, all_are, cut};
 use mixers::{Block, Exchange, Mixer, State};
-use mode::{open, seal};
+use mode::{Fault, Setting, open, seal};
 use std::process::Abort;
 use std::test::Fail;
 
@@ -14,16 +14,25 @@ const CIPHER: [u8; 16] = [
 
 const TAG: [u8; 16] = [0; 16];
 
+// What the example is sealed under.
+fn setting() -> Setting<'static> {
+    Setting {
+        key: &KEY,
+        nonce: &[],
+        ad: &[],
+    }
+}
+
 // Opening answers that this is not authentic, and leaves zeros over the length of the ciphertext and nothing else.
-fn refused(rt: &impl Abort, key: &[u8], nonce: &[u8], ad: &[u8], cipher: &[u8], tag: &[u8]) {
+fn refused(rt: &impl Abort, setting: Setting, cipher: &[u8], tag: &[u8]) {
     let mut text = [UNTOUCHED; 80];
-    let code = match open(&Exchange, key, nonce, ad, cipher, tag, &mut text) {
-        Ok(_) => 0,
-        Err(fault) => fault.code(),
-    };
-    assert_eq!(rt; code, 7);
-    assert!(rt; all_are(0, &text, 0, cipher.len()));
-    assert!(rt; all_are(UNTOUCHED, &text, cipher.len(), 80));
+    assert_eq!(rt;
+        open(&Exchange, setting, cipher, tag, &mut text),
+        Err(Fault::NotAuthentic)
+    );
+    let (written, rest) = cut(&text, cipher.len());
+    assert!(rt; all_are(0, written));
+    assert!(rt; all_are(UNTOUCHED, rest));
 }
 
 #[test]
@@ -42,42 +51,39 @@ fn the_exchange_swaps_the_blocks_of_a_state(rt: HostRuntime) {
 #[test]
 fn the_worked_example_runs(rt: HostRuntime) -> Result<(), Fail> {
     let mut out = [UNTOUCHED; 40];
-    let (cipher, all) = seal(&Exchange, &KEY, &[], &[], &[], &mut out)?;
-    assert_eq!(rt; cipher, 16);
-    assert_eq!(rt; all, 32);
-    assert!(rt; front(&out, 16) == &CIPHER[..]);
-    assert!(rt; all_are(0, &out, 16, 32));
-    assert!(rt; all_are(UNTOUCHED, &out, 32, 40));
+    let lengths = seal(&Exchange, setting(), &[], &mut out)?;
+    assert_eq!(rt; lengths, (16, 32));
+    assert!(rt; &out[..16] == &CIPHER[..]);
+    assert!(rt; all_are(0, &out[16..32]));
+    assert!(rt; all_are(UNTOUCHED, &out[32..]));
     let mut text = [UNTOUCHED; 20];
-    assert_eq!(rt;
-        open(&Exchange, &KEY, &[], &[], &CIPHER, &TAG, &mut text)?,
-        0
-    );
-    assert!(rt; all_are(0, &text, 0, 16));
-    assert!(rt; all_are(UNTOUCHED, &text, 16, 20));
+    assert_eq!(rt; open(&Exchange, setting(), &CIPHER, &TAG, &mut text)?, 0);
+    assert!(rt; all_are(0, &text[..16]));
+    assert!(rt; all_are(UNTOUCHED, &text[16..]));
     Ok(())
 }
 
 #[test]
 fn every_flipped_bit_of_the_tag_is_refused(rt: HostRuntime) {
-    for i in 0..16 {
-        for bit in &[1, 2, 4, 8, 16, 32, 64, 128] {
-            let mut tag = TAG;
-            tag[i] ^= *bit;
-            refused(&rt, &KEY, &[], &[], &CIPHER, &tag);
-        }
+    for bit in 0..128 {
+        let mut tag = TAG;
+        tag[bit / 8] ^= 1 << (bit % 8);
+        refused(&rt, setting(), &CIPHER, &tag);
     }
 }
 
 // Blocks of 0x11 have the same tag as the worked example and are the padding of no message.
 #[test]
 fn a_right_tag_over_wrong_padding_is_refused(rt: HostRuntime) {
-    refused(&rt, &KEY, &[], &[], &KEY, &TAG);
+    refused(&rt, setting(), &KEY, &TAG);
 }
 
 #[test]
 fn another_key_nonce_or_data_is_refused(rt: HostRuntime) {
-    refused(&rt, &[0x12; 16], &[], &[], &CIPHER, &TAG);
-    refused(&rt, &KEY, &[0], &[], &CIPHER, &TAG);
-    refused(&rt, &KEY, &[], &[0], &CIPHER, &TAG);
+    let key = &[0x12; 16];
+    refused(&rt, Setting { key, ..setting() }, &CIPHER, &TAG);
+    let nonce = &[0];
+    refused(&rt, Setting { nonce, ..setting() }, &CIPHER, &TAG);
+    let ad = &[0];
+    refused(&rt, Setting { ad, ..setting() }, &CIPHER, &TAG);
 }

@@ -1,9 +1,10 @@
 // Messages around the edges of blocks: how long the ciphertext is, that it opens to the message, and what the buffers
 // hold behind.
-use crate::parts::{UNTOUCHED, all_are, front, part};
+use crate::parts::{UNTOUCHED, all_are, cut, front};
 use crate::wide_exchange::WideExchange;
 use mixers::{Exchange, Mixer};
-use mode::{open, seal};
+use mode::{Setting, open, seal};
+use std::alloc::{AllocError, Global};
 use std::process::Abort;
 use std::test::Fail;
 
@@ -33,78 +34,93 @@ const AT_THIRTY_TWO: [(usize, usize); 8] = [
     (65536, 65568),
 ];
 
-// Seals and opens one message; answers the length of its ciphertext.
-fn round_trip<const B: usize, M: Mixer<B>>(
-    rt: &impl Abort,
-    mixer: &M,
-    message: &[u8],
-    out: &mut [u8],
-    text: &mut [u8],
-) -> Result<usize, Fail> {
-    out.fill(UNTOUCHED);
-    text.fill(UNTOUCHED);
-    let key = [0x4b; 32];
-    let key = front(&key, mixer.block_len());
-    let (cipher, all) = seal(mixer, key, b"number", b"header", message, out)?;
-    assert_eq!(rt; all.saturating_sub(cipher), mixer.block_len());
-    assert!(rt; all_are(UNTOUCHED, out, all, out.len()));
-    let n = open(
-        mixer,
-        key,
-        b"number",
-        b"header",
-        front(out, cipher),
-        part(out, cipher, all),
-        text,
-    )?;
-    assert_eq!(rt; n, message.len());
-    assert!(rt; front(text, n) == message);
-    assert!(rt; all_are(0, text, n, cipher));
-    assert!(rt; all_are(UNTOUCHED, text, cipher, text.len()));
-    Ok(cipher)
+// Where the cases seal and open.
+#[derive(Drop)]
+struct Buffers {
+    out: Vec<u8>,
+    text: Vec<u8>,
+}
+
+impl Buffers {
+    fn new(heap: Global, len: usize) -> Result<Buffers, AllocError> {
+        Ok(Buffers {
+            out: vec![in heap; 0u8; len]?,
+            text: vec![in heap; 0u8; len]?,
+        })
+    }
+
+    // Seals and opens one message; answers the length of its ciphertext.
+    fn round_trip<const B: usize, M: Mixer<B>>(
+        &mut self,
+        rt: &impl Abort,
+        mixer: &M,
+        message: &[u8],
+    ) -> Result<usize, Fail> {
+        self.out.fill(UNTOUCHED);
+        self.text.fill(UNTOUCHED);
+        let setting = Setting {
+            key: front(&[0x4b; 32], mixer.block_len()),
+            nonce: b"number",
+            ad: b"header",
+        };
+        let (len, all) = seal(mixer, setting, message, &mut self.out)?;
+        let (sealed, behind) = cut(&self.out, all);
+        let (cipher, tag) = cut(sealed, len);
+        assert_eq!(rt; tag.len(), mixer.block_len());
+        assert!(rt; all_are(UNTOUCHED, behind));
+        assert_eq!(rt;
+            open(mixer, setting, cipher, tag, &mut self.text)?,
+            message.len()
+        );
+        let (padded, behind) = cut(&self.text, len);
+        let (opened, zeros) = cut(padded, message.len());
+        assert!(rt; opened == message);
+        assert!(rt; all_are(0, zeros));
+        assert!(rt; all_are(UNTOUCHED, behind));
+        Ok(len)
+    }
+
+    // The same for the fronts of `message` that a table names, with the lengths that it has.
+    fn each_of<const B: usize, M: Mixer<B>>(
+        &mut self,
+        rt: &impl Abort,
+        mixer: &M,
+        message: &[u8],
+        table: &[(usize, usize)],
+    ) -> Result<(), Fail> {
+        for (len, cipher) in table {
+            let got = self.round_trip(rt, mixer, front(message, *len))?;
+            assert_eq!(rt; got, *cipher);
+        }
+        Ok(())
+    }
+
+    // The same for each front of `message`.
+    fn each_front<const B: usize, M: Mixer<B>>(
+        &mut self,
+        rt: &impl Abort,
+        mixer: &M,
+        message: &[u8],
+    ) -> Result<(), Fail> {
+        for len in 0..message.len() {
+            self.round_trip(rt, mixer, front(message, len))?;
+        }
+        Ok(())
+    }
 }
 
 #[test]
 fn ciphertexts_have_the_length_of_the_table(rt: HostRuntime) -> Result<(), Fail> {
     let message = vec![in rt.alloc(); 0x20u8; 65536]?;
-    let mut out = vec![in rt.alloc(); 0u8; 65700]?;
-    let mut text = vec![in rt.alloc(); 0u8; 65700]?;
-    for (len, cipher) in &AT_SIXTEEN {
-        let got = round_trip(&rt, &Exchange, front(&message, *len), &mut out, &mut text)?;
-        assert_eq!(rt; got, *cipher);
-    }
-    for (len, cipher) in &AT_THIRTY_TWO {
-        let got = round_trip(
-            &rt,
-            &WideExchange,
-            front(&message, *len),
-            &mut out,
-            &mut text,
-        )?;
-        assert_eq!(rt; got, *cipher);
-    }
-    Ok(())
-}
-
-// Seals and opens each front of `message`.
-fn each_front<const B: usize, M: Mixer<B>>(
-    rt: &impl Abort,
-    mixer: &M,
-    message: &[u8],
-    out: &mut [u8],
-    text: &mut [u8],
-) -> Result<(), Fail> {
-    for len in 0..message.len() {
-        round_trip(rt, mixer, front(message, len), out, text)?;
-    }
-    Ok(())
+    let mut buffers = Buffers::new(rt.alloc(), 65700)?;
+    buffers.each_of(&rt, &Exchange, &message, &AT_SIXTEEN)?;
+    buffers.each_of(&rt, &WideExchange, &message, &AT_THIRTY_TWO)
 }
 
 #[test]
 fn every_short_message_opens_again(rt: HostRuntime) -> Result<(), Fail> {
     let message = [0xa5; 101];
-    let mut out = [0; 200];
-    let mut text = [0; 200];
-    each_front(&rt, &Exchange, &message, &mut out, &mut text)?;
-    each_front(&rt, &WideExchange, &message, &mut out, &mut text)
+    let mut buffers = Buffers::new(rt.alloc(), 200)?;
+    buffers.each_front(&rt, &Exchange, &message)?;
+    buffers.each_front(&rt, &WideExchange, &message)
 }

@@ -3,6 +3,7 @@ ghost use Rattle.mixers.specs.Exchange.{exchanged};
 ghost use Rattle.mode_cases.specs.WideExchange.{wide_lawful};
 
 use mixers::{Mixer, State};
+use std::mem::swap;
 
 #[derive(Clone, Copy)]
 pub struct WideExchange;
@@ -15,13 +16,7 @@ impl Mixer<32> for WideExchange {
     ghost laws = { λ _. wide_lawful };
 
     fn mix(&self, state: &mut State<32>) {
-        let upper = state.upper;
-        state.upper = state.lower;
-        state.lower = upper;
-    }
-
-    fn block_len(&self) -> usize {
-        32
+        swap(&mut state.upper, &mut state.lower);
     }
 
     fn mark(&self) -> u8 {

@@ -49,7 +49,7 @@ fn under<const B: usize, M: Mixer<B>>(
     )?;
     let mut text = [0xff; CIPHER];
     match open_text(mixer, key, &sealed, &mut text) {
-        Ok(opened) if opened == TEXT.len() && text[0..51] == TEXT[..] => {
+        Ok(opened) if opened == TEXT.len() && text.starts_with(&TEXT) => {
             println!(rt; "{name}: opened the same text")?;
         }
         _ => return Err(anyhow!("the sealed text did not open")),

@@ -22,11 +22,7 @@ fn product(a: u8, b: u8) -> u8 {
 
 // The inverse is the power 254; of 0 it is 0.
 fn inverse(a: u8) -> u8 {
-    let mut power = 1;
-    for _ in 0..254 {
-        power = product(power, a);
-    }
-    power
+    (0..254).fold(1, |power, _| product(power, a))
 }
 
 fn substitute(a: u8) -> u8 {
@@ -37,8 +33,8 @@ fn substitute(a: u8) -> u8 {
 // What stands for each byte.
 pub(crate) fn sbox() -> [u8; 256] {
     let mut table = [0; 256];
-    for byte in 0..=255u8 {
-        table[byte as usize] = substitute(byte);
+    for (byte, entry) in (0..=255u8).zip(&mut table) {
+        *entry = substitute(byte);
     }
     table
 }

@@ -1,9 +1,8 @@
 // The mode: a chain of blocks under one mixer.
-use crate::bytes::{part, sum};
-use crate::kind::Kind;
-use crate::padding::{MESSAGE_MAX, padded_data};
+use crate::bytes::{cut, sum};
+use crate::padding::MESSAGE_MAX;
 use crate::reference::Reference;
-use crate::refusal::Refusal;
+use crate::refusal::{Failure, Refusal};
 use crate::setting::Setting;
 use std::alloc::AllocError;
 
@@ -15,126 +14,108 @@ struct Link {
     last: Vec<u8>,
 }
 
+// The chains under one setting.
+#[derive(Clone, Copy)]
+struct Mode<'a> {
+    reference: &'a Reference,
+    setting: Setting<'a>,
+}
+
+// The next x' and m where a message is sealed, from y' ⊕ m and m.
+fn sealing(sum: Vec<u8>, block: Vec<u8>) -> (Vec<u8>, Vec<u8>) {
+    (sum, block)
+}
+
+// The same where a ciphertext is opened: its block is x', and m is y' ⊕ x'.
+fn opening(sum: Vec<u8>, block: Vec<u8>) -> (Vec<u8>, Vec<u8>) {
+    (block, sum)
+}
+
 impl Reference {
     // Ciphertext and then tag.
-    pub fn seal(&self, setting: &Setting, message: &[u8]) -> Result<Vec<u8>, Refusal> {
+    pub fn seal(&self, setting: &Setting, message: &[u8]) -> Result<Vec<u8>, Failure> {
         setting.judge()?;
         if message.len() > MESSAGE_MAX {
-            return Err(Refusal::MessageTooLong);
+            return Err(Refusal::MessageTooLong.into());
         }
-        let start = self.after_data(setting)?;
-        let padded = setting.lengths().padded(self.heap, setting.kind, message)?;
-        let mut sealed = Vec::new(self.heap);
-        let end = self.sealed(setting.kind, start, &padded, &mut sealed)?;
-        sealed.extend_from_slice(&self.tag(setting, &end)?)?;
+        let mode = Mode::of(self, *setting);
+        let padded = setting.padded(self.heap, message)?;
+        let (mut sealed, end) = mode.run(mode.after_data()?, &padded, sealing)?;
+        sealed.extend_from_slice(&mode.tag(&end)?)?;
         Ok(sealed)
     }
 
     // The message.
-    pub fn open(&self, setting: &Setting, cipher: &[u8], tag: &[u8]) -> Result<Vec<u8>, Refusal> {
+    pub fn open(&self, setting: &Setting, cipher: &[u8], tag: &[u8]) -> Result<Vec<u8>, Failure> {
         setting.judge()?;
         setting.judge_cipher(cipher, tag)?;
-        let start = self.after_data(setting)?;
-        let mut padded = Vec::new(self.heap);
-        let end = self.opened(setting.kind, start, cipher, &mut padded)?;
-        if self.tag(setting, &end)?.as_slice() != tag {
-            return Err(Refusal::NotAuthentic);
+        let mode = Mode::of(self, *setting);
+        let (padded, end) = mode.run(mode.after_data()?, cipher, opening)?;
+        if mode.tag(&end)?.as_slice() != tag {
+            return Err(Refusal::NotAuthentic.into());
         }
-        match setting
-            .lengths()
-            .unpadded(self.heap, setting.kind, &padded)?
-        {
-            Some(message) => Ok(message),
-            None => Err(Refusal::NotAuthentic),
-        }
+        setting.unpadded(self.heap, &padded)
+    }
+}
+
+impl<'a> Mode<'a> {
+    fn of(reference: &'a Reference, setting: Setting<'a>) -> Mode<'a> {
+        Mode { reference, setting }
     }
 
     // The mixing of a link: y' and y.
-    fn mixed(&self, kind: Kind, link: &Link) -> Result<(Vec<u8>, Vec<u8>), AllocError> {
-        let n = kind.block_len();
+    fn mixed(&self, link: &Link) -> Result<(Vec<u8>, Vec<u8>), AllocError> {
+        let heap = self.reference.heap;
+        let kind = self.setting.kind;
         let mut state = link.lower.clone()?;
         state.extend_from_slice(&link.upper)?;
-        let state = self.mix(kind, &state)?;
-        let upper = part(&state, n, state.len()).to_vec(self.heap)?;
-        let lower = part(&state, 0, n).to_vec(self.heap)?;
-        Ok((upper, lower))
+        let state = self.reference.mix(kind, &state)?;
+        let (lower, upper) = cut(&state, kind.block_len());
+        Ok((upper.to_vec(heap)?, lower.to_vec(heap)?))
     }
 
-    // The next link, where `block` comes in.
-    fn next(&self, kind: Kind, link: &Link, block: &[u8]) -> Result<Link, AllocError> {
-        let (upper, lower) = self.mixed(kind, link)?;
-        Ok(Link {
-            upper: sum(self.heap, &upper, block)?,
-            lower: sum(self.heap, &lower, &link.last)?,
-            last: block.to_vec(self.heap)?,
-        })
-    }
-
-    // The next link, where `block` of the ciphertext comes in.
-    fn next_back(&self, kind: Kind, link: &Link, block: &[u8]) -> Result<Link, AllocError> {
-        let (upper, lower) = self.mixed(kind, link)?;
-        Ok(Link {
-            upper: block.to_vec(self.heap)?,
-            lower: sum(self.heap, &lower, &link.last)?,
-            last: sum(self.heap, &upper, block)?,
-        })
+    // Runs the chain over `text`, and answers y' ⊕ block for each block of it, and the last link. `turn` says which
+    // of the two is the next x' and which is the next m.
+    fn run<F: Fn(Vec<u8>, Vec<u8>) -> (Vec<u8>, Vec<u8>)>(
+        &self,
+        start: Link,
+        text: &[u8],
+        turn: F,
+    ) -> Result<(Vec<u8>, Link), AllocError>
+        requires { F.IsAlwaysCallable turn }
+    {
+        let heap = self.reference.heap;
+        let mut out = Vec::new(heap);
+        let mut link = start;
+        for block in text.chunks(self.setting.kind.block_len().max(1)) {
+            let (upper, lower) = self.mixed(&link)?;
+            let added = sum(heap, &upper, block)?;
+            out.extend_from_slice(&added)?;
+            let lower = sum(heap, &lower, &link.last)?;
+            let (upper, last) = turn(added, block.to_vec(heap)?);
+            link = Link { upper, lower, last };
+        }
+        Ok((out, link))
     }
 
     // The chain from its start through the data.
-    fn after_data(&self, setting: &Setting) -> Result<Link, AllocError> {
-        let n = setting.kind.block_len();
-        let zeros = vec![in self.heap; 0u8; n]?;
-        let nonce = sum(self.heap, &zeros, setting.nonce)?;
-        let mut link = Link {
+    fn after_data(&self) -> Result<Link, AllocError> {
+        let heap = self.reference.heap;
+        let mut nonce = self.setting.nonce.to_vec(heap)?;
+        nonce.resize(self.setting.kind.block_len(), 0)?;
+        let start = Link {
             upper: nonce.clone()?,
-            lower: setting.key.to_vec(self.heap)?,
+            lower: self.setting.key.to_vec(heap)?,
             last: nonce,
         };
-        for block in padded_data(self.heap, setting.kind, setting.ad)?.chunks(n.max(1)) {
-            let next = self.next(setting.kind, &link, block)?;
-            link = next;
-        }
-        Ok(link)
-    }
-
-    // Runs the chain over a padded message; `out` takes the ciphertext.
-    fn sealed(
-        &self,
-        kind: Kind,
-        start: Link,
-        padded: &[u8],
-        out: &mut Vec<u8>,
-    ) -> Result<Link, AllocError> {
-        let mut link = start;
-        for block in padded.chunks(kind.block_len().max(1)) {
-            let next = self.next(kind, &link, block)?;
-            out.extend_from_slice(&next.upper)?;
-            link = next;
-        }
-        Ok(link)
-    }
-
-    // Runs the chain over a ciphertext; `out` takes the padded message.
-    fn opened(
-        &self,
-        kind: Kind,
-        start: Link,
-        cipher: &[u8],
-        out: &mut Vec<u8>,
-    ) -> Result<Link, AllocError> {
-        let mut link = start;
-        for block in cipher.chunks(kind.block_len().max(1)) {
-            let next = self.next_back(kind, &link, block)?;
-            out.extend_from_slice(&next.last)?;
-            link = next;
-        }
+        let (_sums, link) = self.run(start, &self.setting.padded_data(heap)?, sealing)?;
         Ok(link)
     }
 
     // The tag at the end of a chain.
-    fn tag(&self, setting: &Setting, end: &Link) -> Result<Vec<u8>, AllocError> {
-        let (_upper, lower) = self.mixed(setting.kind, end)?;
-        let masked = sum(self.heap, &lower, &end.last)?;
-        sum(self.heap, &masked, setting.key)
+    fn tag(&self, end: &Link) -> Result<Vec<u8>, AllocError> {
+        let heap = self.reference.heap;
+        let (_upper, lower) = self.mixed(end)?;
+        sum(heap, &sum(heap, &lower, &end.last)?, self.setting.key)
     }
 }

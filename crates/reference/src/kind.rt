@@ -1,13 +1,19 @@
 // The three mixers by name, with what tells them apart.
 use crate::layer::{Layer, Rule, Spread};
 use crate::width::Width;
+use std::fmt;
+use std::str::FromStr;
 
-#[derive(Clone, Copy)]
+#[derive(Clone, Copy, Debug, PartialEq, Eq)]
 pub enum Kind {
     Narrow,
     Wide,
     Exchange,
 }
+
+// A text that names no mixer.
+#[derive(Clone, Copy, Debug, PartialEq, Eq)]
+pub struct UnknownKind;
 
 // The round constants: in each round a word of 32 bits, and the place of its lowest bit in the state.
 const NARROW_CONSTANTS: [(u32, usize); 6] = [
@@ -31,17 +37,17 @@ const WIDE_CONSTANTS: [(u32, usize); 6] = [
 const NARROW_LAYERS: [Layer; 3] = [
     Layer {
         width: Width::SixtyFour,
-        spread: Spread::RightFifteen,
+        spread: Spread::Right(15),
         rule: Rule::FourWords,
     },
     Layer {
         width: Width::Sixteen,
-        spread: Spread::RightOne,
+        spread: Spread::Right(1),
         rule: Rule::FourWords,
     },
     Layer {
         width: Width::Eight,
-        spread: Spread::RightThree,
+        spread: Spread::Right(3),
         rule: Rule::TwoWords,
     },
 ];
@@ -49,12 +55,12 @@ const NARROW_LAYERS: [Layer; 3] = [
 const WIDE_LAYERS: [Layer; 3] = [
     Layer {
         width: Width::Full,
-        spread: Spread::RightThree,
+        spread: Spread::Right(3),
         rule: Rule::FourWords,
     },
     Layer {
         width: Width::ThirtyTwo,
-        spread: Spread::RightThree,
+        spread: Spread::Right(3),
         rule: Rule::FourWords,
     },
     Layer {
@@ -81,14 +87,6 @@ impl Kind {
         }
     }
 
-    pub fn name(self) -> &'static str {
-        match self {
-            Kind::Narrow => "narrow",
-            Kind::Wide => "wide",
-            Kind::Exchange => "exchange",
-        }
-    }
-
     // The constants of the rounds; the exchange has no rounds.
     pub(crate) fn constants(self) -> &'static [(u32, usize)] {
         match self {
@@ -103,6 +101,29 @@ impl Kind {
             Kind::Narrow => &NARROW_LAYERS,
             Kind::Wide => &WIDE_LAYERS,
             Kind::Exchange => &[],
+        }
+    }
+}
+
+impl fmt::Display for Kind {
+    fn fmt<W: fmt::Write>(&self, f: &mut fmt::Formatter<W>) -> fmt::Result {
+        f.write_str(match self {
+            Kind::Narrow => "narrow",
+            Kind::Wide => "wide",
+            Kind::Exchange => "exchange",
+        })
+    }
+}
+
+impl FromStr for Kind {
+    type Err = UnknownKind;
+
+    fn from_str(name: &str) -> Result<Kind, UnknownKind> {
+        match name {
+            "narrow" => Ok(Kind::Narrow),
+            "wide" => Ok(Kind::Wide),
+            "exchange" => Ok(Kind::Exchange),
+            _ => Err(UnknownKind),
         }
     }
 }

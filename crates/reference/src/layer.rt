@@ -1,28 +1,26 @@
 // The diffusion layers: groups of two or four words, spread over one another.
-use crate::bytes::{number, part};
+ghost use Rattle.std.specs.Prelude.{◌≤◌};
+
+use crate::bytes::number;
 use crate::width::Width;
 use std::alloc::{AllocError, Global};
 
 // The function L on words.
-#[derive(Clone, Copy)]
+#[derive(Clone, Copy, Debug, PartialEq, Eq)]
 pub(crate) enum Spread {
-    // (X << 1) ⊕ (X >> 1)
-    RightOne,
-    // (X << 1) ⊕ (X >> 3)
-    RightThree,
-    // (X << 1) ⊕ (X >> 15)
-    RightFifteen,
+    // (X << 1) ⊕ (X >> so many)
+    Right(u32),
     // X ⊕ (X << 1), then rotated left by 1, on bytes
     Turned,
 }
 
-#[derive(Clone, Copy)]
+#[derive(Clone, Copy, Debug, PartialEq, Eq)]
 pub(crate) enum Rule {
     TwoWords,
     FourWords,
 }
 
-#[derive(Clone, Copy)]
+#[derive(Clone, Copy, Debug, PartialEq, Eq)]
 pub(crate) struct Layer {
     pub(crate) width: Width,
     pub(crate) spread: Spread,
@@ -33,9 +31,7 @@ impl Layer {
     fn spread(self, x: u128) -> u128 {
         let doubled = x << 1;
         let value = match self.spread {
-            Spread::RightOne => doubled ^ x >> 1,
-            Spread::RightThree => doubled ^ x >> 3,
-            Spread::RightFifteen => doubled ^ x >> 15,
+            Spread::Right(by) => doubled ^ x.unbounded_shr(by),
             Spread::Turned => {
                 let t = self.width.cut(x ^ doubled);
                 t << 1 | t >> 7
@@ -44,10 +40,10 @@ impl Layer {
         self.width.cut(value)
     }
 
-    fn two(self, [x0, x1, _, _]: [u128; 4]) -> [u128; 4] {
+    fn two(self, [x0, x1]: [u128; 2]) -> [u128; 2] {
         let y0 = x0 ^ self.spread(x1);
         let y1 = x1 ^ self.spread(y0);
-        [y0, y1, 0, 0]
+        [y0, y1]
     }
 
     fn four(self, [x0, x1, x2, x3]: [u128; 4]) -> [u128; 4] {
@@ -59,20 +55,15 @@ impl Layer {
     }
 
     // The words of a group, lowest first; past its end they are 0.
-    fn words(self, group: &[u8]) -> [u128; 4] {
-        let n = self.width.bytes();
-        let ends = [
-            n,
-            n.saturating_mul(2),
-            n.saturating_mul(3),
-            n.saturating_mul(4),
-        ];
-        [
-            number(part(group, 0, ends[0])),
-            number(part(group, ends[0], ends[1])),
-            number(part(group, ends[1], ends[2])),
-            number(part(group, ends[2], ends[3])),
-        ]
+    fn words<const N: usize>(self, group: &[u8]) -> [u128; N]
+        requires { N ≤ 4 }
+    {
+        let mut words = [0; N];
+        let parts = group.chunks(self.width.bytes().max(1));
+        for (word, part) in words.iter_mut().zip(parts) {
+            *word = number(part);
+        }
+        words
     }
 
     // The bytes of a group.
@@ -84,20 +75,20 @@ impl Layer {
         self.width.bytes().saturating_mul(words)
     }
 
+    // Writes words, lowest first.
+    fn write(self, words: &[u128], out: &mut Vec<u8>) -> Result<(), AllocError> {
+        for word in words {
+            out.extend(word.to_le_bytes().iter().take(self.width.bytes()).copied())?;
+        }
+        Ok(())
+    }
+
     // Writes the words of one group after it was spread.
     fn append(self, group: &[u8], out: &mut Vec<u8>) -> Result<(), AllocError> {
-        let words = self.words(group);
-        let spread = match self.rule {
-            Rule::TwoWords => self.two(words),
-            Rule::FourWords => self.four(words),
-        };
-        let end = out.len().saturating_add(group.len());
-        for word in &spread {
-            out.extend_from_slice(part(&word.to_le_bytes(), 0, self.width.bytes()))?;
+        match self.rule {
+            Rule::TwoWords => self.write(&self.two(self.words(group)), out),
+            Rule::FourWords => self.write(&self.four(self.words(group)), out),
         }
-        // Of a group of two words only these are kept.
-        out.truncate(end);
-        Ok(())
     }
 
     // The state after this layer.

@@ -13,7 +13,8 @@ mod refusal;
 mod setting;
 mod width;
 
-pub use kind::Kind;
+pub use bytes::{cut, fill, sum};
+pub use kind::{Kind, UnknownKind};
 pub use reference::Reference;
-pub use refusal::Refusal;
+pub use refusal::{Failure, Refusal};
 pub use setting::Setting;

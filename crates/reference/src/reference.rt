@@ -1,5 +1,5 @@
 // The mixing functions.
-use crate::bytes::part;
+use crate::bytes::cut;
 use crate::field::sbox;
 use crate::kind::Kind;
 use std::alloc::{AllocError, Global};
@@ -9,14 +9,6 @@ use std::alloc::{AllocError, Global};
 pub struct Reference {
     pub(crate) heap: Global,
     sbox: [u8; 256],
-}
-
-// Byte `i` of word × 2^place.
-fn constant_byte(word: u32, place: usize, i: usize) -> u8 {
-    match i.checked_sub(place / 8) {
-        Some(k) => word.to_le_bytes().get(k).copied().unwrap_or(0),
-        None => 0,
-    }
 }
 
 impl Reference {
@@ -33,9 +25,9 @@ impl Reference {
     }
 
     fn exchanged(&self, kind: Kind, state: &[u8]) -> Result<Vec<u8>, AllocError> {
-        let n = kind.block_len();
-        let mut all = part(state, n, state.len()).to_vec(self.heap)?;
-        all.extend_from_slice(part(state, 0, n))?;
+        let (lower, upper) = cut(state, kind.block_len());
+        let mut all = upper.to_vec(self.heap)?;
+        all.extend_from_slice(lower)?;
         Ok(all)
     }
 
@@ -50,9 +42,10 @@ impl Reference {
 
     // The state ⊕ word × 2^place.
     fn added(&self, word: u32, place: usize, state: &[u8]) -> Result<Vec<u8>, AllocError> {
-        let mut all = Vec::new(self.heap);
-        for (i, byte) in state.iter().enumerate() {
-            all.push(*byte ^ constant_byte(word, place, i))?;
+        let mut all = state.to_vec(self.heap)?;
+        let bytes = word.to_le_bytes();
+        for (byte, other) in all.iter_mut().skip(place / 8).zip(&bytes) {
+            *byte ^= *other;
         }
         Ok(all)
     }
@@ -68,10 +61,9 @@ impl Reference {
     }
 
     fn substituted(&self, state: &[u8]) -> Result<Vec<u8>, AllocError> {
-        let mut all = Vec::new(self.heap);
-        for byte in state {
-            all.push(self.sbox[*byte as usize])?;
-        }
-        Ok(all)
+        state
+            .iter()
+            .map(|byte| self.sbox[*byte as usize])
+            .collect(self.heap)
     }
 }

@@ -1,9 +1,9 @@
-// Why a call is refused.
+// Why a call gives no bytes.
 use std::alloc::AllocError;
 
-#[derive(Clone, Copy)]
+// What the mode refuses.
+#[derive(Clone, Copy, Debug, PartialEq, Eq)]
 pub enum Refusal {
-    Memory,
     KeyLength,
     NonceTooLong,
     DataTooLong,
@@ -13,10 +13,9 @@ pub enum Refusal {
 }
 
 impl Refusal {
-    // The code of docs/REFUSALS.md, or 0 where memory ran out.
+    // The code of docs/REFUSALS.md.
     pub fn code(self) -> u8 {
         match self {
-            Refusal::Memory => 0,
             Refusal::KeyLength => 1,
             Refusal::NonceTooLong => 2,
             Refusal::DataTooLong => 3,
@@ -27,8 +26,21 @@ impl Refusal {
     }
 }
 
-impl From<AllocError> for Refusal {
-    fn from(_e: AllocError) -> Refusal {
-        Refusal::Memory
+#[derive(Debug, Drop)]
+pub enum Failure {
+    Refused(Refusal),
+    // memory ran out
+    Memory(AllocError),
+}
+
+impl From<Refusal> for Failure {
+    fn from(refusal: Refusal) -> Failure {
+        Failure::Refused(refusal)
+    }
+}
+
+impl From<AllocError> for Failure {
+    fn from(error: AllocError) -> Failure {
+        Failure::Memory(error)
     }
 }

@@ -1,6 +1,6 @@
 // What a message is sealed and opened under, and which lengths are refused.
 use crate::kind::Kind;
-use crate::padding::{Lengths, MESSAGE_MAX};
+use crate::padding::MESSAGE_MAX;
 use crate::refusal::Refusal;
 
 const DATA_MAX: usize = 4096;
@@ -14,13 +14,6 @@ pub struct Setting<'a> {
 }
 
 impl Setting<'_> {
-    pub(crate) fn lengths(&self) -> Lengths {
-        Lengths {
-            nonce: self.nonce.len(),
-            ad: self.ad.len(),
-        }
-    }
-
     pub(crate) fn judge(&self) -> Result<(), Refusal> {
         let n = self.kind.block_len();
         if self.key.len() != n {

@@ -1,6 +1,6 @@
 // How wide a word is. A word is a number in a u128, below 2 to the power of its width.
 
-#[derive(Clone, Copy)]
+#[derive(Clone, Copy, Debug, PartialEq, Eq)]
 pub(crate) enum Width {
     Eight,
     Sixteen,

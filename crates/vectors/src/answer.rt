@@ -1,26 +1,55 @@
-// What a call answered.
-use reference::Refusal;
+// What a call answers: the bytes, or the refusal, by the library's name for it. A call for which memory runs out
+// answers nothing.
+use anyhow::ensure;
+use mode::Fault;
+use reference::{Failure, Refusal};
+use std::alloc::AllocError;
 
-#[derive(Drop)]
-pub(crate) enum Answer {
-    Bytes(Vec<u8>),
-    // the code of the refusal; 0 where memory ran out
-    Refused(u8),
+pub(crate) type Answer = Result<Vec<u8>, Fault>;
+
+// The library's name for a refusal of the reference. Neither type is of this crate, so that no `From` can stand here.
+fn fault_of(refusal: Refusal) -> Fault {
+    match refusal {
+        Refusal::KeyLength => Fault::KeyLength,
+        Refusal::NonceTooLong => Fault::NonceTooLong,
+        Refusal::DataTooLong => Fault::DataTooLong,
+        Refusal::MessageTooLong => Fault::MessageTooLong,
+        Refusal::CipherLength => Fault::CipherLength,
+        Refusal::NotAuthentic => Fault::NotAuthentic,
+    }
 }
 
-impl Answer {
-    pub(crate) fn of(res: Result<Vec<u8>, Refusal>) -> Answer {
-        match res {
-            Ok(bytes) => Answer::Bytes(bytes),
-            Err(refusal) => Answer::Refused(refusal.code()),
-        }
+// What the reference answered.
+pub(crate) fn answer_of(given: Result<Vec<u8>, Failure>) -> Result<Answer, AllocError> {
+    match given {
+        Ok(bytes) => Ok(Ok(bytes)),
+        Err(Failure::Refused(refusal)) => Ok(Err(fault_of(refusal))),
+        Err(Failure::Memory(error)) => Err(error),
     }
+}
 
-    pub(crate) fn same(&self, other: &Answer) -> bool {
-        match (self, other) {
-            (Answer::Bytes(a), Answer::Bytes(b)) => a.as_slice() == b.as_slice(),
-            (Answer::Refused(a), Answer::Refused(b)) => *a == *b,
-            _ => false,
-        }
+// The refusals, with the codes of docs/REFUSALS.md. The reference has no buffer that could be too short.
+const CODES: [(Refusal, u8); 6] = [
+    (Refusal::KeyLength, 1),
+    (Refusal::NonceTooLong, 2),
+    (Refusal::DataTooLong, 3),
+    (Refusal::MessageTooLong, 4),
+    (Refusal::CipherLength, 5),
+    (Refusal::NotAuthentic, 7),
+];
+
+// That both give each refusal its code.
+pub(crate) fn check_codes() -> anyhow::Result<()> {
+    for (refusal, code) in &CODES {
+        let fault = fault_of(*refusal);
+        ensure!(
+            refusal.code() == *code && fault.code() == *code,
+            "refusal {code} has another code"
+        );
     }
+    ensure!(
+        Fault::BufferTooShort.code() == 6,
+        "refusal 6 has another code"
+    );
+    Ok(())
 }

@@ -12,8 +12,8 @@ pub(crate) struct Shape {
     message: usize,
 }
 
-impl Shape {
-    pub(crate) fn of([key, nonce, ad, message]: [usize; 4]) -> Shape {
+impl From<[usize; 4]> for Shape {
+    fn from([key, nonce, ad, message]: [usize; 4]) -> Shape {
         Shape {
             key,
             nonce,
@@ -21,10 +21,12 @@ impl Shape {
             message,
         }
     }
+}
 
+impl Shape {
     // The lengths of an ordinary sealing.
     pub(crate) fn usual(kind: Kind) -> Shape {
-        Shape::of([kind.block_len(), 8, 10, 51])
+        Shape::from([kind.block_len(), 8, 10, 51])
     }
 
     pub(crate) fn with_nonce(self, nonce: usize) -> Shape {

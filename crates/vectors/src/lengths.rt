@@ -3,128 +3,120 @@ use crate::answer::Answer;
 use crate::bytes::sample;
 use crate::case::Case;
 use crate::inputs::{Inputs, Shape};
-use crate::sides::Sides;
+use crate::sides::Pair;
 use crate::tally::Lengths;
-use reference::Kind;
+use mode::Fault;
 
-// Messages of 0 to 100 bytes are all tried.
-const SHORT_MESSAGES: usize = 101;
-
-// Around the longest message.
-const LONG_MESSAGES: [usize; 2] = [65535, 65536];
-
-// Seals and opens bytes of these lengths.
-fn agree_on(sides: &Sides, case: Case, shape: Shape) -> anyhow::Result<()> {
-    let inputs = Inputs::of(sides.heap, shape)?;
-    let _sealed = sides.round_trip(case, &inputs.setting(case.kind), &inputs.message)?;
+// That both gave this refusal.
+fn expect(case: Case, answer: Answer, fault: Fault) -> anyhow::Result<()> {
+    if answer != Err(fault) {
+        return Err(case.fails("both answer, but not by the refusal due"));
+    }
     Ok(())
 }
 
-fn short_messages(sides: &Sides, kind: Kind) -> anyhow::Result<usize> {
-    for n in 0..SHORT_MESSAGES {
-        let case = Case::of(kind, "message length", n);
-        agree_on(sides, case, Shape::usual(kind).with_message(n))?;
+impl Pair<'_> {
+    // Seals and opens inputs of the usual lengths but one, which is each of these in turn; answers how many.
+    fn agree_on<F: Fn(Shape, usize) -> Shape>(
+        &self,
+        what: &'static str,
+        lengths: &[usize],
+        with_length: F,
+    ) -> anyhow::Result<usize>
+        requires { F.IsAlwaysCallable with_length }
+    {
+        for n in lengths {
+            let inputs = Inputs::of(self.sides.heap, with_length(Shape::usual(self.kind), *n))?;
+            let case = self.case(what, *n);
+            let _sealed = self
+                .sides
+                .round_trip(case, &inputs.setting(self.kind), &inputs.message)?;
+        }
+        Ok(lengths.len())
     }
-    Ok(SHORT_MESSAGES)
-}
 
-fn long_messages(sides: &Sides, kind: Kind) -> anyhow::Result<usize> {
-    for n in &LONG_MESSAGES {
-        let case = Case::of(kind, "message length", *n);
-        agree_on(sides, case, Shape::usual(kind).with_message(*n))?;
+    // Messages of 0 to 100 bytes, and around the longest.
+    fn messages(&self) -> anyhow::Result<usize> {
+        let lengths: Vec<usize> = (0..101).chain([65535, 65536]).collect(self.sides.heap)?;
+        self.agree_on("message length", &lengths, Shape::with_message)
     }
-    Ok(LONG_MESSAGES.len())
-}
 
-fn nonces(sides: &Sides, kind: Kind) -> anyhow::Result<usize> {
-    let count = kind.block_len().saturating_add(1);
-    for n in 0..count {
-        let case = Case::of(kind, "nonce length", n);
-        agree_on(sides, case, Shape::usual(kind).with_nonce(n))?;
+    fn nonces(&self) -> anyhow::Result<usize> {
+        let lengths: Vec<usize> = (0..=self.kind.block_len()).collect(self.sides.heap)?;
+        self.agree_on("nonce length", &lengths, Shape::with_nonce)
     }
-    Ok(count)
-}
 
-fn data(sides: &Sides, kind: Kind) -> anyhow::Result<usize> {
-    let b = kind.block_len();
-    let lengths = [0, 1, b.saturating_sub(1), b, b.saturating_add(1), 4096];
-    for n in &lengths {
-        let case = Case::of(kind, "data length", *n);
-        agree_on(sides, case, Shape::usual(kind).with_ad(*n))?;
+    fn data(&self) -> anyhow::Result<usize> {
+        let b = self.kind.block_len();
+        let lengths = [0, 1, b.saturating_sub(1), b, b.saturating_add(1), 4096];
+        self.agree_on("data length", &lengths, Shape::with_ad)
     }
-    Ok(lengths.len())
-}
 
-// That both gave this refusal.
-fn expect(sides: &Sides, case: Case, answer: Answer, code: u8) -> anyhow::Result<()> {
-    match answer {
-        Answer::Refused(given) if given == code => Ok(()),
-        _ => Err(case.fails(sides.heap, "both answer, but not by the refusal due")),
+    // The lengths of key, nonce, data and message that sealing refuses, and the refusal.
+    fn refused_sealings(&self) -> anyhow::Result<usize> {
+        let b = self.kind.block_len();
+        let more = b.saturating_add(1);
+        let less = b.saturating_sub(1);
+        let rows = [
+            ([0, 8, 10, 51], Fault::KeyLength),
+            ([less, 8, 10, 51], Fault::KeyLength),
+            ([more, 8, 10, 51], Fault::KeyLength),
+            ([b, more, 10, 51], Fault::NonceTooLong),
+            ([b, 8, 4097, 51], Fault::DataTooLong),
+            ([b, 8, 10, 65537], Fault::MessageTooLong),
+        ];
+        for (i, (lengths, fault)) in rows.iter().enumerate() {
+            let case = self.case("refused sealing", i);
+            let inputs = Inputs::of(self.sides.heap, Shape::from(*lengths))?;
+            let answer = self
+                .sides
+                .seal(case, &inputs.setting(self.kind), &inputs.message)?;
+            expect(case, answer, *fault)?;
+        }
+        Ok(rows.len())
     }
-}
 
-// The lengths of key, nonce, data and message that sealing refuses, and the code.
-fn refused_sealings(sides: &Sides, kind: Kind) -> anyhow::Result<usize> {
-    let b = kind.block_len();
-    let more = b.saturating_add(1);
-    let less = b.saturating_sub(1);
-    let rows = [
-        ([0, 8, 10, 51], 1),
-        ([less, 8, 10, 51], 1),
-        ([more, 8, 10, 51], 1),
-        ([b, more, 10, 51], 2),
-        ([b, 8, 4097, 51], 3),
-        ([b, 8, 10, 65537], 4),
-    ];
-    for (i, (lengths, code)) in rows.iter().enumerate() {
-        let case = Case::of(kind, "refused sealing", i);
-        let inputs = Inputs::of(sides.heap, Shape::of(*lengths))?;
-        let answer = sides.seal(case, &inputs.setting(kind), &inputs.message)?;
-        expect(sides, case, answer, *code)?;
+    // The lengths of key, nonce, data and ciphertext, and of the tag, that opening refuses, and the refusal. In the
+    // last row they are good, and what is opened is not authentic.
+    fn refused_openings(&self) -> anyhow::Result<usize> {
+        let b = self.kind.block_len();
+        let more = b.saturating_add(1);
+        let less = b.saturating_sub(1);
+        let most = b.saturating_add(65536);
+        let rows = [
+            ([less, 8, 10, b], b, Fault::KeyLength),
+            ([more, 8, 10, b], b, Fault::KeyLength),
+            ([b, more, 10, b], b, Fault::NonceTooLong),
+            ([b, 8, 4097, b], b, Fault::DataTooLong),
+            ([b, 8, 10, b], less, Fault::CipherLength),
+            ([b, 8, 10, b], more, Fault::CipherLength),
+            ([b, 8, 10, 0], b, Fault::CipherLength),
+            ([b, 8, 10, less], b, Fault::CipherLength),
+            ([b, 8, 10, more], b, Fault::CipherLength),
+            ([b, 8, 10, most.saturating_add(b)], b, Fault::CipherLength),
+            ([b, 8, 10, most], b, Fault::NotAuthentic),
+        ];
+        for (i, (lengths, tag, fault)) in rows.iter().enumerate() {
+            let case = self.case("refused opening", i);
+            let inputs = Inputs::of(self.sides.heap, Shape::from(*lengths))?;
+            let tag = sample(self.sides.heap, 5, *tag)?;
+            let answer = self
+                .sides
+                .open(case, &inputs.setting(self.kind), &inputs.message, &tag)?;
+            expect(case, answer, *fault)?;
+        }
+        Ok(rows.len())
     }
-    Ok(rows.len())
-}
 
-// The lengths of key, nonce, data and ciphertext, and of the tag, that opening refuses, and the code. In the last row
-// they are good, and what is opened is not authentic.
-fn refused_openings(sides: &Sides, kind: Kind) -> anyhow::Result<usize> {
-    let b = kind.block_len();
-    let more = b.saturating_add(1);
-    let less = b.saturating_sub(1);
-    let most = b.saturating_add(65536);
-    let rows = [
-        ([less, 8, 10, b], b, 1),
-        ([more, 8, 10, b], b, 1),
-        ([b, more, 10, b], b, 2),
-        ([b, 8, 4097, b], b, 3),
-        ([b, 8, 10, b], less, 5),
-        ([b, 8, 10, b], more, 5),
-        ([b, 8, 10, 0], b, 5),
-        ([b, 8, 10, less], b, 5),
-        ([b, 8, 10, more], b, 5),
-        ([b, 8, 10, most.saturating_add(b)], b, 5),
-        ([b, 8, 10, most], b, 7),
-    ];
-    for (i, (lengths, tag, code)) in rows.iter().enumerate() {
-        let case = Case::of(kind, "refused opening", i);
-        let inputs = Inputs::of(sides.heap, Shape::of(*lengths))?;
-        let tag = sample(sides.heap, 5, *tag)?;
-        let answer = sides.open(case, &inputs.setting(kind), &inputs.message, &tag)?;
-        expect(sides, case, answer, *code)?;
+    // All of these for one mixer.
+    pub(crate) fn lengths(&self) -> anyhow::Result<Lengths> {
+        Ok(Lengths {
+            kind: self.kind,
+            messages: self.messages()?,
+            nonces: self.nonces()?,
+            ads: self.data()?,
+            sealings: self.refused_sealings()?,
+            openings: self.refused_openings()?,
+        })
     }
-    Ok(rows.len())
-}
-
-// All of these for one mixer.
-pub(crate) fn all_lengths(sides: &Sides, kind: Kind) -> anyhow::Result<Lengths> {
-    let short = short_messages(sides, kind)?;
-    let long = long_messages(sides, kind)?;
-    Ok(Lengths {
-        kind,
-        messages: short.saturating_add(long),
-        nonces: nonces(sides, kind)?,
-        ads: data(sides, kind)?,
-        sealings: refused_sealings(sides, kind)?,
-        openings: refused_openings(sides, kind)?,
-    })
 }

@@ -1,9 +1,12 @@
 // The proved library, by the name of the mixer.
+ghost use Rattle.std.specs.Prelude.{◌≤◌};
+
 use crate::answer::Answer;
-use crate::bytes::{joined, part};
+use crate::bytes::joined;
+use crate::sides::Side;
 use mixers::{Block, Exchange, Mixer, Narrow, State, Wide};
-use mode::Fault;
-use reference::{Kind, Setting};
+use mode::{open, seal};
+use reference::{Kind, Setting, cut};
 use std::alloc::{AllocError, Global};
 
 pub(crate) const KINDS: [Kind; 3] = [Kind::Narrow, Kind::Wide, Kind::Exchange];
@@ -11,100 +14,98 @@ pub(crate) const KINDS: [Kind; 3] = [Kind::Narrow, Kind::Wide, Kind::Exchange];
 // More than padding and tag take.
 const ROOM: usize = 96;
 
-fn seal_with<const B: usize, M: Mixer<B>>(
-    mixer: &M,
-    setting: &Setting,
-    message: &[u8],
-    out: &mut [u8],
-) -> Result<(usize, usize), Fault> {
-    mode::seal(mixer, setting.key, setting.nonce, setting.ad, message, out)
-}
-
-fn open_with<const B: usize, M: Mixer<B>>(
-    mixer: &M,
-    setting: &Setting,
-    cipher: &[u8],
-    tag: &[u8],
-    text: &mut [u8],
-) -> Result<usize, Fault> {
-    mode::open(
-        mixer,
-        setting.key,
-        setting.nonce,
-        setting.ad,
-        cipher,
-        tag,
-        text,
-    )
-}
-
-pub(crate) fn seal(heap: Global, setting: &Setting, message: &[u8]) -> Result<Answer, AllocError> {
-    let mut out = vec![in heap; 0u8; message.len().saturating_add(ROOM)]?;
-    let answer = match setting.kind {
-        Kind::Narrow => seal_with(&Narrow, setting, message, &mut out),
-        Kind::Wide => seal_with(&Wide, setting, message, &mut out),
-        Kind::Exchange => seal_with(&Exchange, setting, message, &mut out),
+// What `$job` is with the mixer of this name as `$mixer`. No closure can take a mixer whose block length is open, and
+// a bound can't name the `dyn` that would hide it.
+macro_rules! with_mixer {
+    ($kind:expr, $mixer:ident => $job:expr) => {
+        match $kind {
+            Kind::Narrow => {
+                let $mixer = Narrow;
+                $job
+            }
+            Kind::Wide => {
+                let $mixer = Wide;
+                $job
+            }
+            Kind::Exchange => {
+                let $mixer = Exchange;
+                $job
+            }
+        }
     };
-    match answer {
-        Ok((_cipher, all)) => Ok(Answer::Bytes(part(&out, 0, all).to_vec(heap)?)),
-        Err(fault) => Ok(Answer::Refused(fault.code())),
-    }
-}
-
-pub(crate) fn open(
-    heap: Global,
-    setting: &Setting,
-    cipher: &[u8],
-    tag: &[u8],
-) -> Result<Answer, AllocError> {
-    let mut text = vec![in heap; 0u8; cipher.len()]?;
-    let answer = match setting.kind {
-        Kind::Narrow => open_with(&Narrow, setting, cipher, tag, &mut text),
-        Kind::Wide => open_with(&Wide, setting, cipher, tag, &mut text),
-        Kind::Exchange => open_with(&Exchange, setting, cipher, tag, &mut text),
-    };
-    match answer {
-        Ok(n) => Ok(Answer::Bytes(part(&text, 0, n).to_vec(heap)?)),
-        Err(fault) => Ok(Answer::Refused(fault.code())),
-    }
-}
-
-// Mixes the two blocks of a state by one mixer. A function over every `Mixer<B>` would have to prove that B is small.
-macro_rules! mixed_by {
-    ($mixer:expr, $heap:expr, $lower:expr, $upper:expr) => {{
-        let mut blocks = State {
-            upper: Block::of($upper),
-            lower: Block::of($lower),
-        };
-        $mixer.mix(&mut blocks);
-        joined($heap, &blocks.lower.bytes, &blocks.upper.bytes)
-    }};
 }
 
 // The state after mixing; its bytes are those of the lower block and then of the upper.
-pub(crate) fn mix(heap: Global, kind: Kind, state: &[u8]) -> Result<Vec<u8>, AllocError> {
-    let n = kind.block_len();
-    let lower = part(state, 0, n);
-    let upper = part(state, n, state.len());
-    match kind {
-        Kind::Narrow => mixed_by!(Narrow, heap, lower, upper),
-        Kind::Wide => mixed_by!(Wide, heap, lower, upper),
-        Kind::Exchange => mixed_by!(Exchange, heap, lower, upper),
+fn mix_with<const B: usize, M: Mixer<B>>(
+    heap: Global,
+    mixer: &M,
+    state: &[u8],
+) -> Result<Vec<u8>, AllocError>
+    requires { B ≤ 32 }
+{
+    let (lower, upper) = cut(state, B);
+    let mut blocks = State {
+        upper: Block::of(upper),
+        lower: Block::of(lower),
+    };
+    mixer.mix(&mut blocks);
+    joined(heap, &blocks.lower.bytes, &blocks.upper.bytes)
+}
+
+// What the library takes of a setting, beside the mixer.
+fn under<'a>(setting: &Setting<'a>) -> mode::Setting<'a> {
+    mode::Setting {
+        key: setting.key,
+        nonce: setting.nonce,
+        ad: setting.ad,
     }
 }
 
 pub(crate) fn block_len(kind: Kind) -> usize {
-    match kind {
-        Kind::Narrow => Narrow.block_len(),
-        Kind::Wide => Wide.block_len(),
-        Kind::Exchange => Exchange.block_len(),
-    }
+    with_mixer!(kind, mixer => mixer.block_len())
 }
 
 pub(crate) fn mark(kind: Kind) -> u8 {
-    match kind {
-        Kind::Narrow => Narrow.mark(),
-        Kind::Wide => Wide.mark(),
-        Kind::Exchange => Exchange.mark(),
+    with_mixer!(kind, mixer => mixer.mark())
+}
+
+// The library, with the allocator that its answers come from.
+#[derive(Clone, Copy)]
+pub(crate) struct Library {
+    heap: Global,
+}
+
+impl Library {
+    pub(crate) fn new(heap: Global) -> Library {
+        Library { heap }
+    }
+}
+
+impl Side for Library {
+    fn mixed(&self, kind: Kind, state: &[u8]) -> Result<Vec<u8>, AllocError> {
+        with_mixer!(kind, mixer => mix_with(self.heap, &mixer, state))
+    }
+
+    fn sealed(&self, setting: &Setting, message: &[u8]) -> Result<Answer, AllocError> {
+        let mut out = vec![in self.heap; 0u8; message.len().saturating_add(ROOM)]?;
+        match with_mixer!(setting.kind, mixer => seal(&mixer, under(setting), message, &mut out)) {
+            Ok((_cipher, all)) => {
+                out.truncate(all);
+                Ok(Ok(out))
+            }
+            Err(fault) => Ok(Err(fault)),
+        }
+    }
+
+    fn opened(&self, setting: &Setting, cipher: &[u8], tag: &[u8]) -> Result<Answer, AllocError> {
+        let mut text = vec![in self.heap; 0u8; cipher.len()]?;
+        match with_mixer!(setting.kind, mixer => open(&mixer, under(setting), cipher, tag, &mut text))
+        {
+            Ok(len) => {
+                text.truncate(len);
+                Ok(Ok(text))
+            }
+            Err(fault) => Ok(Err(fault)),
+        }
     }
 }

@@ -7,7 +7,7 @@ mod bits;
 mod bytes;
 mod case;
 mod damage;
-mod hex;
+mod fields;
 mod inputs;
 mod lengths;
 mod library;
@@ -17,20 +17,19 @@ mod sides;
 mod stored;
 mod tally;
 
-use damage::damaged_copies;
-use lengths::all_lengths;
+use answer::check_codes;
 use library::KINDS;
-use mixings::all_mixings;
 use published::published_vectors;
-use sides::Sides;
+use sides::{Pair, Sides};
 use stored::stored_vectors;
 
 // What is computed for each mixer.
 fn run_tables(rt: &impl Print, sides: &Sides) -> anyhow::Result<()> {
     for kind in &KINDS {
-        rt.println(all_mixings(sides, *kind)?)?;
-        rt.println(all_lengths(sides, *kind)?)?;
-        rt.println(damaged_copies(sides, *kind)?)?;
+        let pair = Pair { sides, kind: *kind };
+        rt.println(pair.mixings()?)?;
+        rt.println(pair.lengths()?)?;
+        rt.println(pair.damaged_copies()?)?;
     }
     Ok(())
 }
@@ -46,6 +45,7 @@ fn run_files(rt: &HostRuntime, sides: &Sides) -> anyhow::Result<()> {
 
 fn run(rt: &HostRuntime) -> anyhow::Result<()> {
     let sides = Sides::new(rt.alloc());
+    check_codes()?;
     run_tables(rt, &sides)?;
     run_files(rt, &sides)?;
     rt.println("all agree")?;

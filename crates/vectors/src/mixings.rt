@@ -1,9 +1,8 @@
 // The mixers by themselves: block length, mark, and the function on states.
 use crate::bytes::{reversed, sample};
-use crate::case::Case;
-use crate::hex::unhex;
+use crate::fields::unhex;
 use crate::library;
-use crate::sides::{Side, Sides};
+use crate::sides::Pair;
 use crate::tally::Mixings;
 use reference::Kind;
 
@@ -21,46 +20,40 @@ fn mixed_zeros(kind: Kind) -> &'static str {
     }
 }
 
-// What both mix a state to.
-fn mix(sides: &Sides, case: Case, state: &[u8]) -> anyhow::Result<Vec<u8>> {
-    let mixed = sides.mix(Side::Library, case.kind, state)?;
-    if mixed.as_slice() != sides.mix(Side::Reference, case.kind, state)?.as_slice() {
-        return Err(case.fails(sides.heap, "the two do not mix alike"));
+impl Pair<'_> {
+    fn zeros(&self) -> anyhow::Result<()> {
+        let heap = self.sides.heap;
+        let case = self.case("state of zeros", 0);
+        let state = vec![in heap; 0u8; self.kind.block_len().saturating_mul(2)]?;
+        let mixed = self.sides.mix(case, &state)?;
+        if mixed != reversed(heap, &unhex(heap, mixed_zeros(self.kind))?)? {
+            return Err(case.fails("both mix it to another state than they should"));
+        }
+        Ok(())
     }
-    Ok(mixed)
-}
 
-fn zeros(sides: &Sides, kind: Kind) -> anyhow::Result<()> {
-    let case = Case::of(kind, "state of zeros", 0);
-    let state = vec![in sides.heap; 0u8; kind.block_len().saturating_mul(2)]?;
-    let mixed = mix(sides, case, &state)?;
-    let expected = reversed(sides.heap, &unhex(sides.heap, mixed_zeros(kind))?)?;
-    if mixed.as_slice() != expected.as_slice() {
-        return Err(case.fails(sides.heap, "both mix it to another state than they should"));
+    // States without a pattern.
+    fn samples(&self) -> anyhow::Result<()> {
+        let len = self.kind.block_len().saturating_mul(2);
+        for i in 0..STATES {
+            let case = self.case("sampled state", i as usize);
+            let _mixed = self.sides.mix(case, &sample(self.sides.heap, i, len)?)?;
+        }
+        Ok(())
     }
-    Ok(())
-}
 
-// States without a pattern.
-fn samples(sides: &Sides, kind: Kind) -> anyhow::Result<()> {
-    for i in 0..STATES {
-        let case = Case::of(kind, "sampled state", i as usize);
-        let state = sample(sides.heap, i, kind.block_len().saturating_mul(2))?;
-        let _mixed = mix(sides, case, &state)?;
+    // All of these for one mixer.
+    pub(crate) fn mixings(&self) -> anyhow::Result<Mixings> {
+        let kind = self.kind;
+        if library::block_len(kind) != kind.block_len() || library::mark(kind) != kind.mark() {
+            let case = self.case("block length", kind.block_len());
+            return Err(case.fails("the two differ in it, or in the mark"));
+        }
+        self.zeros()?;
+        self.samples()?;
+        Ok(Mixings {
+            kind,
+            states: (STATES as usize).saturating_add(1),
+        })
     }
-    Ok(())
-}
-
-// All of these for one mixer.
-pub(crate) fn all_mixings(sides: &Sides, kind: Kind) -> anyhow::Result<Mixings> {
-    if library::block_len(kind) != kind.block_len() || library::mark(kind) != kind.mark() {
-        let case = Case::of(kind, "block length", kind.block_len());
-        return Err(case.fails(sides.heap, "the two differ in it, or in the mark"));
-    }
-    zeros(sides, kind)?;
-    samples(sides, kind)?;
-    Ok(Mixings {
-        kind,
-        states: (STATES as usize).saturating_add(1),
-    })
 }

@@ -1,13 +1,13 @@
 // The vectors that the designers published, in their convention: strings of bits, most significant first; key and nonce
 // are numbers; behind the message stand the lengths of nonce, data and message, and a bit 1. docs/VECTORS.md has more.
-use crate::bits::{bits_of, extended, fill, packed, push_number};
-use crate::bytes::{joined, part, reversed, sum};
+use crate::bits::{bits_of, extended, packed, push_number};
+use crate::bytes::{joined, reversed};
 use crate::case::Case;
-use crate::hex::{Fields, kind_named};
+use crate::fields::{Fields, each_line};
 use crate::inputs::Inputs;
 use crate::sides::{Side, Sides};
 use crate::tally::Published;
-use reference::{Kind, Setting};
+use reference::{Kind, Setting, cut, fill, sum};
 use std::alloc::{AllocError, Global};
 
 // The inputs as bits, and the bytes that are published.
@@ -18,22 +18,13 @@ struct Vector {
     sealed: Vec<u8>,
 }
 
-fn bits_from(heap: Global, fields: &Fields) -> anyhow::Result<Inputs> {
-    Ok(Inputs {
-        key: bits_of(heap, fields.at(2))?,
-        nonce: bits_of(heap, fields.at(3))?,
-        ad: bits_of(heap, fields.at(4))?,
-        message: bits_of(heap, fields.at(5))?,
-    })
-}
-
 impl Vector {
     // A line has mixer, letter, key, nonce, data, message, ciphertext and tag.
     fn of(heap: Global, line: &str) -> anyhow::Result<Vector> {
         let fields = Fields::of(heap, line)?;
         Ok(Vector {
-            kind: kind_named(fields.at(0))?,
-            bits: bits_from(heap, &fields)?,
+            kind: fields.kind()?,
+            bits: fields.inputs(heap, 2, bits_of)?,
             sealed: fields.sealed(heap, 6)?,
         })
     }
@@ -80,97 +71,89 @@ struct Link {
     last: Vec<u8>,
 }
 
-// The mixing of a state that is written highest byte first.
-fn mixed(sides: &Sides, side: Side, kind: Kind, state: &[u8]) -> Result<Vec<u8>, AllocError> {
-    let lowest_first = reversed(sides.heap, state)?;
-    reversed(sides.heap, &sides.mix(side, kind, &lowest_first)?)
+// A sealing in the published convention, with the mixing of one of the two implementations.
+#[derive(Clone, Copy)]
+struct Sealing<'a, S> {
+    heap: Global,
+    side: &'a S,
+    vector: &'a Vector,
 }
 
-// Mixes, and adds the next block to x' and the last one to x.
-fn next(
-    sides: &Sides,
-    side: Side,
-    kind: Kind,
-    link: &Link,
-    block: &[u8],
-) -> Result<Link, AllocError> {
-    let state = mixed(sides, side, kind, &link.state)?;
-    let added = joined(sides.heap, block, &link.last)?;
-    Ok(Link {
-        state: sum(sides.heap, &state, &added)?,
-        last: block.to_vec(sides.heap)?,
-    })
-}
-
-// Runs the chain over `text`; `out` takes each x'.
-fn run(
-    sides: &Sides,
-    side: Side,
-    kind: Kind,
-    start: Link,
-    text: &[u8],
-    out: &mut Vec<u8>,
-) -> Result<Link, AllocError> {
-    let n = kind.block_len();
-    let mut link = start;
-    for block in text.chunks(n.max(1)) {
-        let after = next(sides, side, kind, &link, block)?;
-        out.extend_from_slice(part(&after.state, 0, n))?;
-        link = after;
+impl<S: Side> Sealing<'_, S> {
+    // The mixing of a state that is written highest byte first.
+    fn mixed(&self, state: &[u8]) -> Result<Vec<u8>, AllocError> {
+        let lowest_first = reversed(self.heap, state)?;
+        reversed(
+            self.heap,
+            &self.side.mixed(self.vector.kind, &lowest_first)?,
+        )
     }
-    Ok(link)
-}
 
-// The chain from its start through the data.
-fn after_data(sides: &Sides, side: Side, vector: &Vector) -> Result<Link, AllocError> {
-    let nonce = vector.block(sides.heap, &vector.bits.nonce)?;
-    let key = vector.block(sides.heap, &vector.bits.key)?;
-    let start = Link {
-        state: joined(sides.heap, &nonce, &key)?,
-        last: nonce,
-    };
-    let mut unused = Vec::new(sides.heap);
-    run(
-        sides,
-        side,
-        vector.kind,
-        start,
-        &vector.padded_ad(sides.heap)?,
-        &mut unused,
-    )
-}
-
-fn tag(sides: &Sides, side: Side, vector: &Vector, end: &Link) -> Result<Vec<u8>, AllocError> {
-    let state = mixed(sides, side, vector.kind, &end.state)?;
-    let lower = part(&state, vector.kind.block_len(), state.len());
-    let masked = sum(sides.heap, lower, &end.last)?;
-    sum(
-        sides.heap,
-        &masked,
-        &vector.block(sides.heap, &vector.bits.key)?,
-    )
-}
-
-// Ciphertext and tag in the published convention, with one of the two mixings.
-fn published_seal(sides: &Sides, side: Side, vector: &Vector) -> Result<Vec<u8>, AllocError> {
-    let start = after_data(sides, side, vector)?;
-    let text = vector.padded_message(sides.heap)?;
-    let mut sealed = Vec::new(sides.heap);
-    let end = run(sides, side, vector.kind, start, &text, &mut sealed)?;
-    sealed.extend_from_slice(&tag(sides, side, vector, &end)?)?;
-    Ok(sealed)
-}
-
-fn reproduce(sides: &Sides, case: Case, side: Side, vector: &Vector) -> anyhow::Result<()> {
-    if published_seal(sides, side, vector)?.as_slice() == vector.sealed.as_slice() {
-        return Ok(());
+    // Mixes, and adds the next block to x' and the last one to x.
+    fn next(&self, link: &Link, block: &[u8]) -> Result<Link, AllocError> {
+        let state = self.mixed(&link.state)?;
+        let added = joined(self.heap, block, &link.last)?;
+        Ok(Link {
+            state: sum(self.heap, &state, &added)?,
+            last: block.to_vec(self.heap)?,
+        })
     }
-    match side {
-        Side::Library => Err(case.fails(sides.heap, "the library's mixing does not reproduce it")),
-        Side::Reference => Err(case.fails(
-            sides.heap,
-            "the reference's mixing does not reproduce it",
-        )),
+
+    // Runs the chain over `text`; `out` takes each x'.
+    fn run(&self, start: Link, text: &[u8], out: &mut Vec<u8>) -> Result<Link, AllocError> {
+        let n = self.vector.kind.block_len();
+        let mut link = start;
+        for block in text.chunks(n.max(1)) {
+            link = self.next(&link, block)?;
+            let (upper, _lower) = cut(&link.state, n);
+            out.extend_from_slice(upper)?;
+        }
+        Ok(link)
+    }
+
+    // The chain from its start through the data.
+    fn after_data(&self) -> Result<Link, AllocError> {
+        let nonce = self.vector.block(self.heap, &self.vector.bits.nonce)?;
+        let key = self.vector.block(self.heap, &self.vector.bits.key)?;
+        let start = Link {
+            state: joined(self.heap, &nonce, &key)?,
+            last: nonce,
+        };
+        let mut unused = Vec::new(self.heap);
+        self.run(start, &self.vector.padded_ad(self.heap)?, &mut unused)
+    }
+
+    fn tag(&self, end: &Link) -> Result<Vec<u8>, AllocError> {
+        let state = self.mixed(&end.state)?;
+        let (_upper, lower) = cut(&state, self.vector.kind.block_len());
+        let masked = sum(self.heap, lower, &end.last)?;
+        let key = self.vector.block(self.heap, &self.vector.bits.key)?;
+        sum(self.heap, &masked, &key)
+    }
+
+    // Ciphertext and tag.
+    fn sealed(&self) -> Result<Vec<u8>, AllocError> {
+        let text = self.vector.padded_message(self.heap)?;
+        let mut sealed = Vec::new(self.heap);
+        let end = self.run(self.after_data()?, &text, &mut sealed)?;
+        sealed.extend_from_slice(&self.tag(&end)?)?;
+        Ok(sealed)
+    }
+}
+
+// That the mixing of one implementation gives the published bytes; `how` says that it doesn't.
+fn reproduce<S: Side>(
+    heap: Global,
+    side: &S,
+    case: Case,
+    vector: &Vector,
+    how: &str,
+) -> anyhow::Result<()> {
+    let sealing = Sealing { heap, side, vector };
+    if sealing.sealed()? == vector.sealed {
+        Ok(())
+    } else {
+        Err(case.fails(how))
     }
 }
 
@@ -208,31 +191,25 @@ fn blocks_reversed(heap: Global, bytes: &[u8], n: usize) -> Result<Vec<u8>, Allo
 fn differ(sides: &Sides, case: Case, vector: &Vector) -> anyhow::Result<()> {
     let ours = sealed_in_our_order(sides, case, vector)?;
     let turned = blocks_reversed(sides.heap, &ours, vector.kind.block_len())?;
-    if ours.as_slice() == vector.sealed.as_slice()
-        || turned.as_slice() == vector.sealed.as_slice()
-    {
-        return Err(case.fails(sides.heap, "our byte order gives the published bytes"));
+    if ours == vector.sealed || turned == vector.sealed {
+        return Err(case.fails("our byte order gives the published bytes"));
     }
     Ok(())
 }
 
+// One vector: both mixings give its bytes, and our order gives others.
+fn compare(sides: &Sides, number: usize, line: &str) -> anyhow::Result<()> {
+    let vector = Vector::of(sides.heap, line)?;
+    let case = Case::of(vector.kind, "published vector of line", number);
+    let how = "the library's mixing does not reproduce it";
+    reproduce(sides.heap, &sides.library, case, &vector, how)?;
+    let how = "the reference's mixing does not reproduce it";
+    reproduce(sides.heap, &sides.reference, case, &vector, how)?;
+    differ(sides, case, &vector)
+}
+
 // All the vectors of a file.
 pub(crate) fn published_vectors(sides: &Sides, text: &str) -> anyhow::Result<Published> {
-    let mut tally = Published {
-        vectors: 0,
-        apart: 0,
-    };
-    for (i, line) in text.lines().enumerate() {
-        if line.starts_with('#') {
-            continue;
-        }
-        let vector = Vector::of(sides.heap, line)?;
-        let case = Case::of(vector.kind, "published vector of line", i.saturating_add(1));
-        reproduce(sides, case, Side::Library, &vector)?;
-        reproduce(sides, case, Side::Reference, &vector)?;
-        tally.vectors = tally.vectors.saturating_add(1);
-        differ(sides, case, &vector)?;
-        tally.apart = tally.apart.saturating_add(1);
-    }
-    Ok(tally)
+    let vectors = each_line(text, |number, line| compare(sides, number, line))?;
+    Ok(Published { vectors })
 }

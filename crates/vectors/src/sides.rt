@@ -1,37 +1,58 @@
 // The two implementations, run on the same input.
-use crate::answer::Answer;
+use crate::answer::{Answer, answer_of};
 use crate::bytes::cut_last;
 use crate::case::Case;
-use crate::library;
+use crate::library::Library;
 use reference::{Kind, Reference, Setting};
 use std::alloc::{AllocError, Global};
+
+// One of the two.
+pub(crate) trait Side {
+    // The state after mixing.
+    fn mixed(&self, kind: Kind, state: &[u8]) -> Result<Vec<u8>, AllocError>;
+
+    fn sealed(&self, setting: &Setting, message: &[u8]) -> Result<Answer, AllocError>;
+
+    fn opened(&self, setting: &Setting, cipher: &[u8], tag: &[u8]) -> Result<Answer, AllocError>;
+}
+
+impl Side for Reference {
+    fn mixed(&self, kind: Kind, state: &[u8]) -> Result<Vec<u8>, AllocError> {
+        self.mix(kind, state)
+    }
+
+    fn sealed(&self, setting: &Setting, message: &[u8]) -> Result<Answer, AllocError> {
+        answer_of(self.seal(setting, message))
+    }
+
+    fn opened(&self, setting: &Setting, cipher: &[u8], tag: &[u8]) -> Result<Answer, AllocError> {
+        answer_of(self.open(setting, cipher, tag))
+    }
+}
 
 #[derive(Drop)]
 pub(crate) struct Sides {
     pub(crate) heap: Global,
-    reference: Reference,
-}
-
-#[derive(Clone, Copy)]
-pub(crate) enum Side {
-    Library,
-    Reference,
+    pub(crate) library: Library,
+    pub(crate) reference: Reference,
 }
 
 impl Sides {
     pub(crate) fn new(heap: Global) -> Sides {
         Sides {
             heap,
+            library: Library::new(heap),
             reference: Reference::new(heap),
         }
     }
 
-    // Mixing by one of the two.
-    pub(crate) fn mix(&self, side: Side, kind: Kind, state: &[u8]) -> Result<Vec<u8>, AllocError> {
-        match side {
-            Side::Library => library::mix(self.heap, kind, state),
-            Side::Reference => self.reference.mix(kind, state),
+    // What both mix a state to.
+    pub(crate) fn mix(&self, case: Case, state: &[u8]) -> anyhow::Result<Vec<u8>> {
+        let mixed = self.library.mixed(case.kind, state)?;
+        if mixed != self.reference.mixed(case.kind, state)? {
+            return Err(case.fails("the two do not mix alike"));
         }
+        Ok(mixed)
     }
 
     // What both answer to a sealing.
@@ -41,9 +62,9 @@ impl Sides {
         setting: &Setting,
         message: &[u8],
     ) -> anyhow::Result<Answer> {
-        let answer = library::seal(self.heap, setting, message)?;
-        if !answer.same(&Answer::of(self.reference.seal(setting, message))) {
-            return Err(case.fails(self.heap, "the two do not seal alike"));
+        let answer = self.library.sealed(setting, message)?;
+        if answer != self.reference.sealed(setting, message)? {
+            return Err(case.fails("the two do not seal alike"));
         }
         Ok(answer)
     }
@@ -56,9 +77,9 @@ impl Sides {
         cipher: &[u8],
         tag: &[u8],
     ) -> anyhow::Result<Answer> {
-        let answer = library::open(self.heap, setting, cipher, tag)?;
-        if !answer.same(&Answer::of(self.reference.open(setting, cipher, tag))) {
-            return Err(case.fails(self.heap, "the two do not open alike"));
+        let answer = self.library.opened(setting, cipher, tag)?;
+        if answer != self.reference.opened(setting, cipher, tag)? {
+            return Err(case.fails("the two do not open alike"));
         }
         Ok(answer)
     }
@@ -70,13 +91,26 @@ impl Sides {
         setting: &Setting,
         message: &[u8],
     ) -> anyhow::Result<Vec<u8>> {
-        let Answer::Bytes(sealed) = self.seal(case, setting, message)? else {
-            return Err(case.fails(self.heap, "sealing was refused"));
+        let Ok(sealed) = self.seal(case, setting, message)? else {
+            return Err(case.fails("sealing was refused"));
         };
         let (cipher, tag) = cut_last(&sealed, setting.kind.block_len());
         match self.open(case, setting, cipher, tag)? {
-            Answer::Bytes(opened) if opened.as_slice() == message => Ok(sealed),
-            _ => Err(case.fails(self.heap, "what was sealed does not open")),
+            Ok(opened) if opened.as_slice() == message => Ok(sealed),
+            _ => Err(case.fails("what was sealed does not open")),
         }
+    }
+}
+
+// The two under one mixer.
+#[derive(Clone, Copy)]
+pub(crate) struct Pair<'a> {
+    pub(crate) sides: &'a Sides,
+    pub(crate) kind: Kind,
+}
+
+impl Pair<'_> {
+    pub(crate) fn case(&self, what: &'static str, number: usize) -> Case {
+        Case::of(self.kind, what, number)
     }
 }

@@ -10,9 +10,7 @@ pub(crate) struct Mixings {
 
 impl fmt::Display for Mixings {
     fn fmt<W: fmt::Write>(&self, f: &mut fmt::Formatter<W>) -> fmt::Result {
-        let mixer = self.kind.name();
-        let states = self.states;
-        write!(f, "{mixer}: states mixed: {states}")
+        write!(f, "{}: states mixed: {}", self.kind, self.states)
     }
 }
 
@@ -28,17 +26,16 @@ pub(crate) struct Lengths {
 
 impl fmt::Display for Lengths {
     fn fmt<W: fmt::Write>(&self, f: &mut fmt::Formatter<W>) -> fmt::Result {
-        let mixer = self.kind.name();
-        let messages = self.messages;
-        let nonces = self.nonces;
-        let ads = self.ads;
         write!(
             f,
-            "{mixer}: lengths sealed and opened: {messages} of messages, {nonces} of nonces, {ads} of data"
+            "{}: lengths sealed and opened: {} of messages, {} of nonces, {} of data",
+            self.kind, self.messages, self.nonces, self.ads
         )?;
-        let sealings = self.sealings;
-        let openings = self.openings;
-        write!(f, "; refused: {sealings} to seal, {openings} to open")
+        write!(
+            f,
+            "; refused: {} to seal, {} to open",
+            self.sealings, self.openings
+        )
     }
 }
 
@@ -51,12 +48,10 @@ pub(crate) struct Damage {
 
 impl fmt::Display for Damage {
     fn fmt<W: fmt::Write>(&self, f: &mut fmt::Formatter<W>) -> fmt::Result {
-        let mixer = self.kind.name();
-        let refused = self.refused;
-        let opened = self.opened;
         write!(
             f,
-            "{mixer}: damaged copies: {refused} refused, {opened} opened"
+            "{}: damaged copies: {} refused, {} opened",
+            self.kind, self.refused, self.opened
         )
     }
 }
@@ -64,18 +59,20 @@ impl fmt::Display for Damage {
 #[derive(Drop)]
 pub(crate) struct Published {
     pub(crate) vectors: usize,
-    pub(crate) apart: usize,
 }
 
 impl fmt::Display for Published {
     fn fmt<W: fmt::Write>(&self, f: &mut fmt::Formatter<W>) -> fmt::Result {
-        let vectors = self.vectors;
-        let apart = self.apart;
         write!(
             f,
-            "published vectors, in their own convention: {vectors} sealed by both mixings"
+            "published vectors, in their own convention: {} sealed by both mixings",
+            self.vectors
         )?;
-        write!(f, "; as whole bytes in our order {apart} give other bytes")
+        write!(
+            f,
+            "; as whole bytes in our order {} give other bytes",
+            self.vectors
+        )
     }
 }
 
@@ -86,7 +83,10 @@ pub(crate) struct Stored {
 
 impl fmt::Display for Stored {
     fn fmt<W: fmt::Write>(&self, f: &mut fmt::Formatter<W>) -> fmt::Result {
-        let vectors = self.vectors;
-        write!(f, "stored vectors: {vectors} sealed and opened by both")
+        write!(
+            f,
+            "stored vectors: {} sealed and opened by both",
+            self.vectors
+        )
     }
 }

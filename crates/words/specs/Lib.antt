@@ -1,6 +1,5 @@
 pub mod Laws
 pub mod Linear
-pub mod Long
 pub mod Diffusion
 pub mod Field
 pub mod Sbox

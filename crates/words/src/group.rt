@@ -5,7 +5,7 @@ ghost use Rattle.words.specs.Diffusion.{diffused};
 use crate::word::Word;
 
 // Four words of one kind.
-#[derive(Clone, Copy)]
+#[derive(Clone, Copy, Debug, PartialEq, Eq)]
 pub struct Group<W> {
     pub x0: W,
     pub x1: W,
@@ -13,7 +13,26 @@ pub struct Group<W> {
     pub x3: W,
 }
 
+impl<W> Group<W> {
+    // `f` at each of the four.
+    pub fn map<V, F: Fn(W) -> V>(self, f: F) -> Group<V>
+        requires { F.IsAlwaysCallable f }
+        ensures x0 { F.post f self.x0 result.x0 }
+        ensures x1 { F.post f self.x1 result.x1 }
+        ensures x2 { F.post f self.x2 result.x2 }
+        ensures x3 { F.post f self.x3 result.x3 }
+    {
+        Group {
+            x0: f(self.x0),
+            x1: f(self.x1),
+            x2: f(self.x2),
+            x3: f(self.x3),
+        }
+    }
+}
+
 // Turns X0 to X3 into Y0 to Y3.
+#[tactic(auto, unfolding(crate::specs::Diffusion::diffused))]
 pub fn diffuse<W: Word>(x: Group<W>) -> Group<W>
     ensures { result ≡ diffused W.plus W.linear_map x }
 {

@@ -2,13 +2,11 @@
 #![tactic(auto)]
 
 mod group;
-mod long;
 mod pair;
 mod sbox;
 mod word;
 
 pub use group::{Group, diffuse};
-pub use long::Long;
 pub use pair::{Pair, couple};
 pub use sbox::substitute;
 pub use word::Word;

@@ -4,7 +4,7 @@ ghost use Rattle.words.specs.Diffusion.{coupled};
 ghost use Rattle.words.specs.Linear.{narrow_third};
 
 // Two bytes.
-#[derive(Clone, Copy)]
+#[derive(Clone, Copy, Debug, PartialEq, Eq)]
 pub struct Pair {
     pub x0: u8,
     pub x1: u8,

@@ -1,10 +1,12 @@
 // What a word is to the diffusion, and the words that the machine has.
 ghost use Rattle.std.specs.Prelude.{◌≡◌, bit_xor};
 ghost use Rattle.words.specs.Laws.{XorLaws, bits_laws};
-ghost use Rattle.words.specs.Linear.{wide_third, narrow_second, wide_second, narrow_first};
+ghost use Rattle.words.specs.Linear.{wide_third, narrow_second, wide_second, narrow_first, wide_first};
+
+use std::ops::BitXor;
 
 // A kind of word brings its exclusive or and its linear map L.
-pub trait Word: Copy {
+pub trait Word: Copy + BitXor<Output = Self> {
     ghost zero: { Self };
 
     // exclusive or
@@ -13,14 +15,17 @@ pub trait Word: Copy {
     // L
     ghost linear_map: { Self → Self };
 
-    // what each kind owes
-    ghost laws: { XorLaws zero plus };
-
-    fn xor(self, other: Self) -> Self
-        ensures { result ≡ plus self other };
-
     fn linear(self) -> Self
         ensures { result ≡ linear_map self };
+
+    fn xor(self, other: Self) -> Self
+        ensures { result ≡ plus self other }
+    {
+        self ^ other
+    }
+
+    // what each kind owes
+    ghost laws: { XorLaws Self.BitXor.can_bitxor Self.BitXor.bitxor_gives zero plus };
 }
 
 // The word of wide D3.
@@ -32,10 +37,6 @@ impl Word for u8 {
     ghost linear_map = { wide_third };
 
     ghost laws = { bits_laws };
-
-    fn xor(self, other: u8) -> u8 {
-        self ^ other
-    }
 
     fn linear(self) -> u8 {
         (self ^ (self << 1)).rotate_left(1)
@@ -52,10 +53,6 @@ impl Word for u16 {
 
     ghost laws = { bits_laws };
 
-    fn xor(self, other: u16) -> u16 {
-        self ^ other
-    }
-
     fn linear(self) -> u16 {
         (self << 1) ^ (self >> 1)
     }
@@ -70,10 +67,6 @@ impl Word for u32 {
     ghost linear_map = { wide_second };
 
     ghost laws = { bits_laws };
-
-    fn xor(self, other: u32) -> u32 {
-        self ^ other
-    }
 
     fn linear(self) -> u32 {
         (self << 1) ^ (self >> 3)
@@ -90,11 +83,22 @@ impl Word for u64 {
 
     ghost laws = { bits_laws };
 
-    fn xor(self, other: u64) -> u64 {
-        self ^ other
-    }
-
     fn linear(self) -> u64 {
         (self << 1) ^ (self >> 15)
+    }
+}
+
+// The word of wide D1.
+impl Word for u128 {
+    ghost zero = { 0 };
+
+    ghost plus = { bit_xor };
+
+    ghost linear_map = { wide_first };
+
+    ghost laws = { bits_laws };
+
+    fn linear(self) -> u128 {
+        (self << 1) ^ (self >> 3)
     }
 }

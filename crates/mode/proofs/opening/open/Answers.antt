@@ -1,52 +1,44 @@
-use Rattle.std.proofs.Common.{◌≤◌, length, Err, sym, ap, ◌∙◌, arith, rules}
+use Rattle.std.proofs.Common.{◌≡◌, ◌++◌, length, drop, Err, sym, ap, ◌∙◌, arith, length-take-le}
 use Rattle.std.proofs.lemmas.Result.{err_from_is_err_and}
-use Rattle.mode.proofs.Opened.{passed, at_once, at_refusal, at_message, within}
-use Rattle.mode.proofs.Widths.{few}
+use Rattle.mixers.specs.Blocks.{over}
+use Rattle.mode.specs.Opening.{opens, cipher_check, open_leaves, message_answer, message_text, answered, left_in}
+use Rattle.mode.proofs.Admits.{passes_on, admitted_by}
+use Rattle.mode.proofs.Opened.{fits, opens-sealed}
 use Rattle.mode.proofs.opening.open.Goals as goal
 
-pub check_lengths-requires : goal.check_lengths-requires
-check_lengths-requires g c = (g.M.Mixer.laws c.args.mixer.now).width
-
-pub judge-requires : goal.judge-requires
-judge-requires g c =
-    let w = (g.M.Mixer.laws c.args.mixer.now).width in
-    let le : g.row.B ≤ 32 = few g.row.B w in
-    let l = passed g.row.B (length c.args.key.now) (length c.args.nonce.now) (length c.args.ad.now) (length c.args.cipher.now) (length c.args.tag.now) (length c.args.text.now) _ c.in_ok-check_lengths.ensures in
-    (search rules, (w, (l.tag, (omega (arith, l.nonce), l.«data»))))
-
-pub returns-in_err-check_lengths : goal.returns-in_err-check_lengths
-returns-in_err-check_lengths g c =
-    let m = c.args.mixer.now in
-    let p = err_from_is_err_and c.from_residual.result c.from_residual.ensures.1 in
-    let ends = at_once (g.M.Mixer.mixing m) g.row.B (g.M.Mixer.mark_byte m) (g.M.Mixer.laws m) c.args.key.now c.args.nonce.now c.args.ad.now c.args.cipher.now c.args.tag.now c.args.text.now
-    _ c.from_residual.result (sym c.in_err-check_lengths.was ∙ c.check_lengths.ensures) (p.1 ∙ ap Err p.2) in
-    record { answer = ends.answer; buffer = ends.buffer; exactly = ends.law_holds }
-
-pub returns-in_err-len : goal.returns-in_err-len
-returns-in_err-len g c =
-    let m = c.args.mixer.now in
-    let e = c.write_opened-expected.ensures in
-    let p = err_from_is_err_and c.from_residual-in_err-len.result c.from_residual-in_err-len.ensures.1 in
-    let ends = at_refusal (g.M.Mixer.mixing m) g.row.B (g.M.Mixer.mark_byte m) (g.M.Mixer.laws m) c.args.key.now c.args.nonce.now c.args.ad.now c.args.cipher.now c.args.tag.now c.write_opened-expected.result.bytes c.args.text.now c.write_opened-expected.new.text c.text.result.now _
-    (record { tag_is = e.tag; text_is = e.text }) c.text.ensures c.in_ok-check_lengths.ensures
-    _ c.from_residual-in_err-len.result c.drop-guard.new.self.0 (sym c.judge.ensures ∙ c.in_err-len.was) (p.1 ∙ ap Err p.2) c.drop-guard.ensures in
-    record { answer = ends.answer; buffer = ends.buffer; exactly = ends.law_holds }
-
-pub zero-requires : goal.zero-requires
-zero-requires g c =
-    let m = c.args.mixer.now in
-    let e = c.write_opened-expected.ensures in
-    let l = passed g.row.B (length c.args.key.now) (length c.args.nonce.now) (length c.args.ad.now) (length c.args.cipher.now) (length c.args.tag.now) (length c.args.text.now) _ c.in_ok-check_lengths.ensures in
-    let inside : c.in_ok-len.len ≤ length c.args.cipher.now = within (g.M.Mixer.mixing m) g.row.B (g.M.Mixer.mark_byte m) (g.M.Mixer.laws m) c.args.key.now c.args.nonce.now c.args.ad.now c.args.cipher.now c.args.tag.now c.write_opened-expected.result.bytes c.args.text.now c.write_opened-expected.new.text c.text.result.now _
-    (record { tag_is = e.tag; text_is = e.text }) c.text.ensures c.in_ok-check_lengths.ensures
-    c.in_ok-len.len (sym c.judge.ensures ∙ c.in_ok-len.was) in
-    (inside, omega (arith, l.fits, c.write_opened-expected.auto.text))
+pub returns-in_err-check_lengths-clause-exactly : goal.returns-in_err-check_lengths-clause-exactly
+returns-in_err-check_lengths-clause-exactly g c =
+    let f = g.M.Mixer.mixing c.args.mixer.now in
+    let s = c.args.setting in
+    let C = c.args.cipher.now in
+    let T = c.args.tag.now in
+    let xs = c.args.text.now in
+    let m = opens f g.row.B s.key.now s.nonce.now s.ad.now C T in
+    let a = admitted_by g.row.B c.in_ok-under.under s c.in_ok-under.ensures in
+    let p = err_from_is_err_and c.from_residual-in_err-check_lengths.result c.from_residual-in_err-check_lengths.ensures.1 in
+    let refused = sym c.in_err-check_lengths.was ∙ c.check_lengths.ensures ∙ sym (passes_on g.row.B (length s.key.now) (length s.nonce.now) (length s.ad.now) (cipher_check g.row.B (length C) (length T) (length xs)) a.key a.nonce a.«data») in
+    opens-sealed f g.row.B _ (g.M.Mixer.laws c.args.mixer.now) s.key.now s.nonce.now s.ad.now C T xs _ xs (p.1 ∙ ap Err p.2 ∙ ap (λ k. answered k m) refused) (ap (λ k. left_in k (length C) m xs) refused)
 
 pub returns : goal.returns
 returns g c =
-    let m = c.args.mixer.now in
-    let e = c.write_opened-expected.ensures in
-    let ends = at_message (g.M.Mixer.mixing m) g.row.B (g.M.Mixer.mark_byte m) (g.M.Mixer.laws m) c.args.key.now c.args.nonce.now c.args.ad.now c.args.cipher.now c.args.tag.now c.write_opened-expected.result.bytes c.args.text.now c.write_opened-expected.new.text c.text.result.now _
-    (record { tag_is = e.tag; text_is = e.text }) c.text.ensures c.in_ok-check_lengths.ensures
-    c.in_ok-len.len (sym c.judge.ensures ∙ c.in_ok-len.was) c.release.new.self.0 (c.release.ensures ∙ c.zero.ensures) in
-    record { answer = ends.answer; buffer = ends.buffer; exactly = ends.law_holds }
+    let f = g.M.Mixer.mixing c.args.mixer.now in
+    let s = c.args.setting in
+    let C = c.args.cipher.now in
+    let T = c.args.tag.now in
+    let xs = c.args.text.now in
+    let n = length C in
+    let end = c.open_guarded.new.text in
+    let m = opens f g.row.B s.key.now s.nonce.now s.ad.now C T in
+    let setting = c.in_ok-under.ensures in
+    let a = admitted_by g.row.B c.in_ok-under.under s setting in
+    let ok = c.in_ok-check_lengths.ensures ∙ sym (passes_on g.row.B (length s.key.now) (length s.nonce.now) (length s.ad.now) (cipher_check g.row.B n (length T) (length xs)) a.key a.nonce a.«data») in
+    let e = c.open_guarded.ensures in
+    let answer = e.answer ∙ ap (λ v. message_answer (opens f g.row.B v.key.now v.nonce.now v.ad.now C T)) setting ∙ ap (λ k. answered k m) ok in
+    let text : end ≡ message_text n m = e.text ∙ ap (λ v. message_text n (opens f g.row.B v.key.now v.nonce.now v.ad.now C T)) setting in
+    let size : n ≡ length end = omega (arith, c.open_guarded.auto.text, length-take-le n xs (omega (arith, fits g.row.B n (length T) (length xs) c.in_ok-check_lengths.ensures))) in
+    let buffer : end ++ drop n xs ≡ open_leaves f g.row.B s.key.now s.nonce.now s.ad.now C T xs = ap (λ k. end ++ drop k xs) size ∙ ap (λ t. over t xs) text ∙ ap (λ k. left_in k n m xs) ok in
+    record {
+      answer = answer;
+      buffer = buffer;
+      exactly = opens-sealed f g.row.B _ (g.M.Mixer.laws c.args.mixer.now) s.key.now s.nonce.now s.ad.now C T xs _ (end ++ drop n xs) answer buffer;
+    }

@@ -1,18 +1,17 @@
-use Rattle.std.proofs.Common.{◌≡◌, suc, ◌+◌, ◌-◌, ◌∷◌, length, get_or, drop, replicate, sym, ap, ◌∙◌, arith}
-use Rattle.std.proofs.lemmas.List.{drop_all, drop_more}
+use Rattle.std.proofs.Common.{ℕ, suc, ◌≡◌, ◌+◌, ◌<◌, ◌≤◌, List, [], ◌∷◌, length, get_or, drop, replicate, refl, ap, ◌∙◌, arith, rules}
+use Rattle.std.proofs.lemmas.List.{get_or-drop, length-drop}
 use Rattle.mode.proofs.padding.reach.Goals as goal
 
-pub loop-end-init : goal.loop-end-init
-loop-end-init c =
-    let xs = c.args.text.now in
-    let none : length xs - length xs ≡ 0 = omega arith in
-    (omega arith, drop_all (length xs) xs (omega arith) ∙ sym (ap (λ k. replicate k 0) none))
+all_zeros : (xs : List ℕ) → ((k : ℕ) → k < length xs → get_or xs k 0 ≡ 0) → xs ≡ replicate (length xs) 0
+all_zeros [] h = refl
+all_zeros (x ∷ xs) h =
+    let first : x ≡ 0 = h 0 (omega arith) in
+    let rest : xs ≡ replicate (length xs) 0 = all_zeros xs (λ k l. h (suc k) (omega arith)) in
+    cc
 
-pub loop-end-preserved : goal.loop-end-preserved
-loop-end-preserved c =
+pub returns-clause-zeros : goal.returns-clause-zeros
+returns-clause-zeros c =
     let xs = c.args.text.now in
-    let e = c.loop-end.end in
-    let one : drop (e - 1) xs ≡ get_or xs (e - 1) 0 ∷ drop (e - 1 + 1) xs = drop_more xs (e - 1) 0 (omega arith) in
-    let at : e - 1 + 1 ≡ e = omega arith in
-    let more : length xs - (e - 1) ≡ suc (length xs - e) = omega arith in
-    (omega arith, one ∙ ap (λ b. b ∷ drop (e - 1 + 1) xs) c.if-text-end-ne0.false ∙ ap (λ k. 0 ∷ drop k xs) at ∙ ap (λ z. 0 ∷ z) c.loop-end.invariant.1 ∙ sym (ap (λ k. replicate k 0) more))
+    let r = c.map_or.result in
+    let h : (k : ℕ) → r ≤ k → k < length xs → get_or xs k 0 ≡ 0 = λ k lo hi. search rules in
+    all_zeros (drop r xs) (λ k l. get_or-drop r xs k 0 ∙ h (r + k) (omega arith) (omega (arith, length-drop r xs))) ∙ ap (λ n. replicate n 0) (length-drop r xs)

@@ -1,26 +1,34 @@
-use Rattle.std.proofs.Common.{◌++◌, ap, ◌∙◌}
-use Rattle.mode.specs.Sealing.{cipher_text, cipher_tag, written}
+use Rattle.std.proofs.Common.{◌≡◌, ◌+◌, ◌≤◌, ◌++◌, length, Ok, ap, ◌∙◌, arith}
+use Rattle.mixers.specs.Blocks.{over}
+use Rattle.mode.specs.Limits.{message_most}
+use Rattle.mode.specs.Sealing.{cipher_text, cipher_tag, cipher_length, seal_answer, written}
+use Rattle.mode.proofs.Admits.{admitted_by, sealable}
 use Rattle.mode.proofs.Faith.{opens-again}
-use Rattle.mode.proofs.Sealed.{sealable}
 use Rattle.mode.proofs.sealing.seal.Goals as goal
-
-pub seal_lengths-requires : goal.seal_lengths-requires
-seal_lengths-requires g c = (g.M.Mixer.laws c.args.mixer.now).width
 
 pub returns : goal.returns
 returns g c =
-    let m = c.args.mixer.now in
-    let f = g.M.Mixer.mixing m in
-    let K = c.args.key.now in
-    let N = c.args.nonce.now in
-    let A = c.args.ad.now in
+    let B = g.row.B in
+    let mixer = c.args.mixer.now in
+    let f = g.M.Mixer.mixing mixer in
+    let s = c.args.setting in
     let M = c.args.message.now in
     let xs = c.args.out.now in
-    let l = c.in_ok-lengths.lengths in
-    let ok = c.in_ok-lengths.ensures in
-    let able = sealable g.row.B K N A M xs l.0 l.1 ok in
+    let m = c.in_ok-message.message in
+    let n = c.cipher_len-cipher.result in
+    let setting : m.under.setting ≡ s = ap (λ u. u.setting) c.in_ok-message.ensures.0 ∙ c.in_ok-new.ensures in
+    let bytes : m.bytes.now ≡ M = c.in_ok-message.ensures.1 in
+    let admitted = admitted_by B m.under s setting in
+    let limit : length M ≤ message_most = omega (arith, m.short, ap length bytes) in
+    let size : n ≡ cipher_length B (length M) = c.cipher_len-cipher.ensures ∙ ap (λ x. cipher_length B (length x)) bytes in
+    let room : cipher_length B (length M) + B ≤ length xs = omega (arith, size) in
+    let answer : Ok (n, n + B) ≡ seal_answer B s.key.now s.nonce.now s.ad.now M xs = sealable B s.key.now s.nonce.now s.ad.now M xs n admitted limit size room in
     record {
-      answer = ok;
-      buffer = c.write_sealed.ensures ∙ ap (λ r. written r (cipher_text f g.row.B K N A M ++ cipher_tag f g.row.B K N A M) xs) ok;
-      again = opens-again f g.row.B (g.M.Mixer.mark_byte m) (g.M.Mixer.laws m) K N A able.admitted M l able.limit able.cipher able.both;
+      answer = answer;
+      buffer =
+          c.write_sealed.ensures
+          ∙ ap (λ v. over (cipher_text f B v.key.now v.nonce.now v.ad.now m.bytes.now ++ cipher_tag f B v.key.now v.nonce.now v.ad.now m.bytes.now) xs) setting
+          ∙ ap (λ x. over (cipher_text f B s.key.now s.nonce.now s.ad.now x ++ cipher_tag f B s.key.now s.nonce.now s.ad.now x) xs) bytes
+          ∙ ap (λ r. written r (cipher_text f B s.key.now s.nonce.now s.ad.now M ++ cipher_tag f B s.key.now s.nonce.now s.ad.now M) xs) answer;
+      again = opens-again f B (g.M.Mixer.mark_byte mixer) (g.M.Mixer.laws mixer) s.key.now s.nonce.now s.ad.now admitted M (n, n + B) limit size (ap (λ k. k + B) size);
     }
