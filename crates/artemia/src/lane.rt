@@ -19,7 +19,7 @@ pub trait Lane: Word {
     // its bytes, the lowest first
     ghost held: { Self → List ℕ };
 
-    // Exclusive or with a number of 64 bits.
+    // Exclusive or with a number of 64 bits. In generic code the conversion would bring a law of its own.
     fn add_low(self, low: u64) -> Self
         ensures { held result ≡ xor_bytes (held self) (low_bytes kind.first_bytes low) };
 
@@ -27,7 +27,8 @@ pub trait Lane: Word {
     fn spread(x: Group<Self>) -> Group<Self>
         ensures { laid held result ≡ four kind.first_bytes kind.first (laid held x) };
 
-    // Its quarters, the lowest first. The types are named in each conversion, so each width cuts and joins for itself.
+    // Its quarters, the lowest first. Generic conversions, sums and shifts would bring what each of them asks and gives, so
+    // each width cuts and joins for itself.
     fn cut(self) -> Group<Self::Short>
         ensures { laid Self.Short.held result ≡ held self };
 

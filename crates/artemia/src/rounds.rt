@@ -6,7 +6,8 @@ ghost use Rattle.artemia.specs.Lanes.{laid, constant_of};
 use crate::lane::Lane;
 use words::Group;
 
-// The constant of each round, as the 64 low bits of its four words: these are the same at both widths.
+// The constant of each round, as the 64 low bits of its four words: these are the same at both widths. Rows of numbers,
+// which a reader can lay beside the table of docs/CIPHER.md.
 const CONSTANTS: [[u64; 4]; 6] = [
     [0x0f1e2d3b, 0, 0, 0],
     [0, 0x4b5a6978, 0, 0],

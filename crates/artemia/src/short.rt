@@ -7,7 +7,8 @@ ghost use Rattle.artemia.specs.Lanes.{laid, HeldLaws, numbers_held};
 
 use words::{Group, Pair, Word, couple, diffuse, substitute};
 
-// A word of D2.
+// A word of D2. Its kind, its bytes and its rule stand in `Lane` too, of other words: a trait that both extend would need
+// laws that say of which.
 pub trait Short: Word {
     // which of the two permutations it serves
     ghost kind: { Kind };
@@ -15,7 +16,8 @@ pub trait Short: Word {
     // its bytes, the lowest first
     ghost held: { Self → List ℕ };
 
-    // S at every byte. The S-box is another crate's, so it is passed in a closure.
+    // S at every byte. The conversions to bytes and back belong to no trait, so each width names its own. The S-box stands
+    // in a closure: by its name alone, the contract of another crate's function is not found.
     fn substitute(self) -> Self
         ensures { held result ≡ substituted (held self) };
 

@@ -1,5 +1,6 @@
 -- The code and the length that stand for an answer outside of the program.
 use Rattle.std.specs.Prelude.{ℕ, Ok, Err, Result}
+use Rattle.std.specs.Result.{result_map_both}
 use Rattle.mode.specs.Faults.{code_of}
 use Rattle.mode.specs.declared.fault.Fault.{Fault}
 
@@ -15,5 +16,4 @@ length_in (Err e) = 0
 
 -- the second of two lengths
 abbrev pub all_in : Result (ℕ × ℕ) Fault → Result ℕ Fault
-all_in (Ok lengths) = Ok lengths.1
-all_in (Err e) = Err e
+all_in answer = result_map_both (λ lengths. lengths.1) (λ e. e) answer

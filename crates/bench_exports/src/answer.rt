@@ -1,10 +1,11 @@
-// What sealing and opening answer to C, which knows no `Result`.
-ghost use Rattle.std.specs.Prelude.{◌≡◌};
+// Mixing, sealing and opening under any mixer, and what the last two answer to C, which knows no `Result`.
+ghost use Rattle.std.specs.Prelude.{◌≡◌, ◌≤◌, length};
+ghost use Rattle.mixers.specs.Halves.{halves};
 ghost use Rattle.mode.specs.Opening.{open_answer, open_leaves};
 ghost use Rattle.mode.specs.Sealing.{seal_answer, seal_leaves};
 ghost use Rattle.bench_exports.specs.Answers.{code_in, length_in, all_in};
 
-use mixers::Mixer;
+use mixers::{Block, Mixer, State};
 use mode::{Fault, Setting, open, seal};
 
 // The code of a refusal and the length 0, or the code 0 and a length.
@@ -26,6 +27,24 @@ impl From<Result<usize, Fault>> for Answer {
             },
         }
     }
+}
+
+// `Mixer::mix`, on the state of these two blocks.
+pub(crate) fn mix_under<const B: usize, M: Mixer<B>>(
+    mixer: &M,
+    lower: &mut [u8; B],
+    upper: &mut [u8; B],
+)
+    requires few { B ≤ 32 }
+    ensures { halves upper.new lower.new ≡ M.mixing mixer.now (halves upper.old lower.old) }
+{
+    let mut mixed = State {
+        upper: Block { bytes: *upper },
+        lower: Block { bytes: *lower },
+    };
+    mixer.mix(&mut mixed);
+    *upper = mixed.upper.bytes;
+    *lower = mixed.lower.bytes;
 }
 
 // `mode::seal`, with the length of ciphertext and tag for its answer.

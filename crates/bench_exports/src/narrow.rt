@@ -6,11 +6,12 @@ ghost use Rattle.mode.specs.Opening.{open_answer, open_leaves};
 ghost use Rattle.mode.specs.Sealing.{seal_answer, seal_leaves};
 ghost use Rattle.bench_exports.specs.Answers.{code_in, length_in, all_in};
 
-use crate::answer::{Answer, open_under, seal_under};
-use mixers::{Block, Mixer, Narrow, State};
+use crate::answer::{Answer, mix_under, open_under, seal_under};
+use mixers::Narrow;
 use mode::Setting;
 
 // A state as C lays it out: its bytes from the lowest on. C takes no struct with a parameter, so each width has its own.
+// Nor has it functions with one, or slices in a struct: each width has its own, and key, nonce and data come one by one.
 #[repr(C)]
 pub struct NarrowState {
     pub lower: [u8; 16],
@@ -22,13 +23,7 @@ pub struct NarrowState {
 pub extern "C" fn nirgusel_narrow_mix(state: &mut NarrowState)
     ensures { halves state.new.upper state.new.lower ≡ narrow_mixing (halves state.old.upper state.old.lower) }
 {
-    let mut mixed = State {
-        upper: Block { bytes: state.upper },
-        lower: Block { bytes: state.lower },
-    };
-    Narrow.mix(&mut mixed);
-    state.upper = mixed.upper.bytes;
-    state.lower = mixed.lower.bytes;
+    mix_under(&Narrow, &mut state.lower, &mut state.upper);
 }
 
 // Seals; the length is that of ciphertext and tag.

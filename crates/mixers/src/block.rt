@@ -3,10 +3,10 @@ ghost use Rattle.std.specs.Prelude.{◌≡◌, ◌≤◌, ◌++◌, length, drop
 ghost use Rattle.words.specs.Bytes.{xor_bytes};
 ghost use Rattle.mixers.specs.Blocks.{block_of};
 
-#[derive(Clone, Copy)]
+#[derive(Clone, Copy, Debug, PartialEq, Eq)]
 pub struct Block<const B: usize> {
     pub bytes: [u8; B],
-    // A proof learns nothing of an array's length where that is a parameter: the block says it.
+    // A proof knows the length of an array whose length is a parameter only until a call or a loop writes it.
     ghost sized: { length bytes ≡ B },
 }
 
@@ -31,10 +31,9 @@ impl<const B: usize> Block<B> {
     pub fn xor(&mut self, other: &Block<B>)
         ensures { self.new.bytes ≡ xor_bytes self.old.bytes other.now.bytes }
     {
-        // Over `iter_mut().zip(..)` a proof learns nothing of what is written.
-        let right = other.bytes;
+        // Over `iter_mut().zip(..)` a proof learns nothing of what is written, nor with `array::from_fn` of what is answered.
         for (i, byte) in self.bytes.iter_mut().enumerate() {
-            *byte ^= right[i];
+            *byte ^= other.bytes[i];
         }
     }
 }

@@ -5,7 +5,7 @@ use crate::mixer::Mixer;
 use crate::state::State;
 use std::mem::swap;
 
-#[derive(Clone, Copy)]
+#[derive(Clone, Copy, Debug, PartialEq, Eq)]
 pub struct Exchange;
 
 impl Mixer<16> for Exchange {

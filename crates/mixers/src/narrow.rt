@@ -16,7 +16,7 @@ impl Mixer<16> for Narrow {
     ghost laws = { λ _. narrow_lawful };
 
     fn mix(&self, state: &mut State<16>) {
-        permute_state::<u64, 16>(state);
+        permute_state::<16, u64>(state);
     }
 
     fn mark(&self) -> u8 {

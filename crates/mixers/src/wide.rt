@@ -16,7 +16,7 @@ impl Mixer<32> for Wide {
     ghost laws = { λ _. wide_lawful };
 
     fn mix(&self, state: &mut State<32>) {
-        permute_state::<u128, 32>(state);
+        permute_state::<32, u128>(state);
     }
 
     fn mark(&self) -> u8 {

@@ -1,5 +1,5 @@
 // A state's blocks as words, the lowest byte first, and Artemia's permutation of them.
-ghost use Rattle.std.specs.Prelude.{◌≡◌, ◌+◌, ◌++◌, length};
+ghost use Rattle.std.specs.Prelude.{◌≡◌, ◌+◌, ◌++◌, length, refl};
 ghost use Rattle.artemia.specs.Artemia.{permuted};
 ghost use Rattle.artemia.specs.Lanes.{laid};
 ghost use Rattle.mixers.specs.Permutations.{on_halves};
@@ -9,8 +9,9 @@ use crate::state::State;
 use artemia::{Lane, permute};
 use words::Group;
 
-// A word of D1 that stands in a block.
-pub(crate) trait Stored: Lane {
+// A word of D1, two of which make a block of `B` bytes. The standard conversions belong to no trait, so each width names
+// its own.
+pub(crate) trait Stored<const B: usize>: Lane {
     // The word of these bytes.
     fn read(bytes: &[u8]) -> Self
         requires { length bytes.now ≡ Self.kind.first_bytes }
@@ -20,9 +21,13 @@ pub(crate) trait Stored: Lane {
     fn write(self, bytes: &mut [u8])
         requires { length bytes.old ≡ Self.kind.first_bytes }
         ensures { bytes.new ≡ Self.held self };
+
+    ghost two: { Self.kind.first_bytes + Self.kind.first_bytes ≡ B };
 }
 
-impl Stored for u64 {
+impl Stored<16> for u64 {
+    ghost two = { refl };
+
     fn read(bytes: &[u8]) -> u64 {
         u64::from_le_bytes(bytes.try_into().unwrap())
     }
@@ -32,7 +37,9 @@ impl Stored for u64 {
     }
 }
 
-impl Stored for u128 {
+impl Stored<32> for u128 {
+    ghost two = { refl };
+
     fn read(bytes: &[u8]) -> u128 {
         u128::from_le_bytes(bytes.try_into().unwrap())
     }
@@ -46,19 +53,17 @@ impl Stored for u128 {
 }
 
 // The permutation that the words `W` serve, on a state whose blocks are two words each.
-pub(crate) fn permute_state<W: Stored, const B: usize>(state: &mut State<B>)
-    requires { W.kind.first_bytes + W.kind.first_bytes ≡ B }
+pub(crate) fn permute_state<const B: usize, W: Stored<B>>(state: &mut State<B>)
     ensures { view state.new ≡ on_halves B (permuted W.kind) (view state.old) }
 {
-    let y = permute(load::<W, B>(state));
+    let y = permute(load::<B, W>(state));
     write_pair(&mut state.upper.bytes, y.x2, y.x3);
     write_pair(&mut state.lower.bytes, y.x0, y.x1);
 }
 
 // The four words of a state, the lowest first.
 #[tactic(auto, unfolding(artemia::specs::Lanes::laid))]
-fn load<W: Stored, const B: usize>(state: &State<B>) -> Group<W>
-    requires { W.kind.first_bytes + W.kind.first_bytes ≡ B }
+fn load<const B: usize, W: Stored<B>>(state: &State<B>) -> Group<W>
     ensures { laid W.held result ≡ state.now.lower.bytes ++ state.now.upper.bytes }
 {
     let (x0, x1) = read_pair(&state.lower.bytes);
@@ -67,19 +72,17 @@ fn load<W: Stored, const B: usize>(state: &State<B>) -> Group<W>
 }
 
 // The two words of a block, the lower first.
-fn read_pair<W: Stored>(bytes: &[u8]) -> (W, W)
-    requires { length bytes.now ≡ W.kind.first_bytes + W.kind.first_bytes }
+fn read_pair<const B: usize, W: Stored<B>>(bytes: &[u8; B]) -> (W, W)
     ensures { W.held result.0 ++ W.held result.1 ≡ bytes.now }
 {
-    let (low, high) = bytes.split_at(bytes.len() / 2);
+    let (low, high) = bytes.split_at(B / 2);
     (W::read(low), W::read(high))
 }
 
-fn write_pair<W: Stored>(bytes: &mut [u8], low: W, high: W)
-    requires { length bytes.old ≡ W.kind.first_bytes + W.kind.first_bytes }
+fn write_pair<const B: usize, W: Stored<B>>(bytes: &mut [u8; B], low: W, high: W)
     ensures { bytes.new ≡ W.held low ++ W.held high }
 {
-    let (front, back) = bytes.split_at_mut(bytes.len() / 2);
+    let (front, back) = bytes.split_at_mut(B / 2);
     low.write(front);
     high.write(back);
 }

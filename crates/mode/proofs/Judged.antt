@@ -1,5 +1,5 @@
 -- What judging says where it finds a message.
-use Rattle.std.proofs.Common.{◌≡◌, ℕ, List, Some, None, sym, ◌∙◌, ⊎_elim, arith}
+use Rattle.std.proofs.Common.{◌≡◌, ℕ, List, Some, None, sym, ◌∙◌, ⊎_elim}
 use Rattle.std.specs.Str.{bytes_eq}
 use Rattle.std.proofs.lemmas.Slice.Eq.{bytes_eq-Decides}
 use Rattle.std.proofs.lemmas.Bool.{cases_Bool, cond-true, cond-false}
@@ -10,5 +10,5 @@ pub judged-some : (B ν α : ℕ) (expected T p M : List ℕ) → judged B ν α
 judged-some B ν α expected T p M e =
     ⊎_elim
     (λ t. ((bytes_eq-Decides expected T).0 t, sym (cond-true (bytes_eq expected T) (unpadded B ν α p) None t) ∙ e))
-    (λ t. absurd (let n : None ≡ Some M = sym (cond-false (bytes_eq expected T) (unpadded B ν α p) None t) ∙ e in let z : ◌≡◌ {A = ℕ} 0 1 = cc in omega arith))
+    (λ t. let none : None ≡ Some M = sym (cond-false (bytes_eq expected T) (unpadded B ν α p) None t) ∙ e in cc)
     (cases_Bool (bytes_eq expected T))

@@ -9,4 +9,3 @@ pub mod Sealed
 pub mod Splits
 pub mod Trips
 pub mod Unpads
-pub mod Widths

@@ -1,29 +1,24 @@
 -- What opening answers and leaves in the text buffer.
-use Rattle.std.proofs.Common.{◌≡◌, ℕ, ◌+◌, ◌-◌, ◌*◌, ◌/◌, ◌%◌, ◌<◌, ◌≤◌, List, ◌++◌, length, take, drop, replicate, Some, None, Ok, Err, IfOk, Option, Result, sym, refl, ap, ◌∙◌, subst, append_assoc, drop-drop, arith}
+use Rattle.std.proofs.Common.{◌≡◌, ℕ, ◌+◌, ◌-◌, ◌*◌, ◌/◌, ◌%◌, ◌≤◌, List, ◌++◌, length, take, drop, replicate, Some, None, Ok, Err, IfOk, Option, Result, sym, refl, ap, ◌∙◌, subst, append_assoc, drop-drop, arith}
 use native.Mathlib.Nat.{mod-add-div'}
 use borrow.Rule.Slice.PartMut.{put_mid}
 use Rattle.std.proofs.lemmas.List.{take_at, drop_all, append-nil}
 use Rattle.std.proofs.lemmas.Bool.Decides.{nat_tests}
 use Rattle.mixers.specs.Halves.{Halves, Lawful}
 use Rattle.mode.specs.Laws.{Admitted, SealedAs, OpensSealed}
-use Rattle.mode.specs.Opening.{opened_blocks, opened_tag, judged, opens, cipher_check, open_checked, message_answer, answered, left_in, open_answer, open_leaves}
+use Rattle.mode.specs.Opening.{opened_blocks, opened_tag, judged, opens, open_checked, message_answer, answered, left_in, open_answer, open_leaves}
 use Rattle.mode.specs.Padding.{pad_message}
 use Rattle.mode.specs.declared.fault.Fault.{Fault}
-use Rattle.mode.proofs.Faith.{sealed_opens, only_sealed}
+use Rattle.mode.proofs.Faith.{within, sealed_opens, only_sealed}
 use Rattle.mode.proofs.Judged.{judged-some}
 use Rattle.mode.proofs.Unpads.{unpads, message_is}
-use Rattle.mode.proofs.Widths.{some, few}
-
--- what it means that ciphertext and buffer are not refused
-pub fits : (B c t room : ℕ) → Ok tt ≡ cipher_check B c t room → c ≤ room
-fits B c t room e = grind (arith, nat_tests)
 
 pub answer_err : (o : Option (List ℕ)) (x : Fault) → message_answer o ≡ Err x → o ≡ None
 answer_err None x e = refl
-answer_err (Some M) x e = absurd (let z : ◌≡◌ {A = ℕ} 0 1 = cc in omega arith)
+answer_err (Some M) x e = cc
 
 pub answer_ok : (o : Option (List ℕ)) (n : ℕ) → message_answer o ≡ Ok n → (M : List ℕ) × ((o ≡ Some M) × (length M ≡ n))
-answer_ok None n e = absurd (let z : ◌≡◌ {A = ℕ} 0 1 = cc in omega arith)
+answer_ok None n e = cc
 answer_ok (Some M) n e = (M, (refl, cc))
 
 -- what judging says under the tag that C should have and the blocks under C
@@ -33,22 +28,13 @@ judged-opens f B K N A C T tag text et ep = rw (et, ep)
 
 -- where the message M is found
 module _ (f : Halves → Halves) (B mark : ℕ) (law : Lawful B mark f) (K N A : List ℕ) (admitted : Admitted B K N A) (C T M : List ℕ) (found : opens f B K N A C T ≡ Some M) where
-  full : 0 < B
-  full = some B law.width
-
-  short : 8 * length N ≤ 256
-  short = omega (arith, few B law.width, admitted.nonce)
-
-  few_data : 8 * length A ≤ 32768
-  few_data = omega (arith, admitted.«data»)
-
   padded : pad_message B (8 * length N) (8 * length A) M ≡ opened_blocks f B K N A C
   unfolding opens
-  padded = (unpads B (8 * length N) (8 * length A) full short few_data (opened_blocks f B K N A C) M (judged-some B (8 * length N) (8 * length A) (opened_tag f B K N A C) T (opened_blocks f B K N A C) M found).1).1
+  padded = (unpads B (8 * length N) (8 * length A) (within f B mark law K N A admitted) (opened_blocks f B K N A C) M (judged-some B (8 * length N) (8 * length A) (opened_tag f B K N A C) T (opened_blocks f B K N A C) M found).1).1
 
   -- it stands at the front of the blocks
   pub front : take (length M) (opened_blocks f B K N A C) ≡ M
-  front = message_is B (8 * length N) (8 * length A) full short few_data M (opened_blocks f B K N A C) padded
+  front = message_is B (8 * length N) (8 * length A) (within f B mark law K N A admitted) M (opened_blocks f B K N A C) padded
 
 -- what it means that nothing is refused from lengths alone
 record Passed (B : ℕ) (K N A C : List ℕ) : Type 0 where

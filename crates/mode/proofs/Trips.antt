@@ -2,14 +2,14 @@
 use Rattle.std.proofs.Common.{◌≡◌, ℕ, zero, suc, ◌+◌, ◌*◌, ◌≤◌, List, ◌++◌, length, take, drop, refl, ap, ◌∙◌, suc-mul, arith, length-append, length-drop, take-append-drop, length-take, take_at, drop_at}
 use Rattle.words.specs.Bytes.{xor_bytes}
 use Rattle.mixers.specs.Halves.{Halves, halves, Sized}
-use Rattle.mode.specs.Steps.{turn, Step, seal_step, open_step, run_out, run_state, run_prev}
+use Rattle.mode.specs.Steps.{turn, Step, seal_step, open_step, followed, run, run_out, run_state, run_prev}
 use Rattle.mixers.proofs.Xor.{xor_cancel, length-xor}
 
 -- The step h takes back what the step g did: the same byte string, the same state and the same last message block.
 abbrev pub Undoes : ℕ → Step → Step → Type 0
 Undoes n g h =
     (k : ℕ) (s : Halves) (prev xs : List ℕ) → Sized n s → length prev ≡ n → k * n ≤ length xs
-    → (run_out h n k s prev (run_out g n k s prev xs) ≡ xs) × (run_state h n k s prev (run_out g n k s prev xs) ≡ run_state g n k s prev xs) × (run_prev h n k s prev (run_out g n k s prev xs) ≡ run_prev g n k s prev xs)
+    → run h n k s prev (run_out g n k s prev xs) ≡ turn (run_state g n k s prev xs) (run_prev g n k s prev xs) xs
 
 -- Opening undoes sealing, and sealing undoes opening.
 abbrev pub RoundTrip : ℕ → (Halves → Halves) → Type 0
@@ -23,7 +23,7 @@ pub record Back (n : ℕ) (g h : Step) (s : Halves) (prev b : List ℕ) : Type 0
   pub block_is : length (g s prev b).block ≡ n
 
 pub undoes : (n : ℕ) (g h : Step) → ((s : Halves) (prev b : List ℕ) → Sized n s → length prev ≡ n → length b ≡ n → Back n g h s prev b) → Undoes n g h
-undoes n g h one zero s prev xs z p le = (refl, refl, refl)
+undoes n g h one zero s prev xs z p le = refl
 undoes n g h one (suc k) s prev xs z p le =
     let le' : k * n + n ≤ length xs = omega (arith, suc-mul k n) in
     let m = take n xs in
@@ -36,7 +36,8 @@ undoes n g h one (suc k) s prev xs z p le =
     let ih = undoes n g h one k t.state t.prev rest b.sized b.prev_is lr in
     let front : take n (t.block ++ tail) ≡ t.block = take_at t.block tail n b.block_is in
     let after : drop n (t.block ++ tail) ≡ tail = drop_at t.block tail n b.block_is in
-    (rw (front, after, b.back) (ap (λ l. m ++ l) ih.0 ∙ take-append-drop n xs), rw (front, after, b.back) ih.1, rw (front, after, b.back) ih.2)
+    let r = run g n k t.state t.prev rest in
+    rw (front, after, b.back) (ap (followed (turn t.state t.prev m)) ih ∙ ap (turn r.state r.prev) (take-append-drop n xs))
 
 -- what a run keeps
 pub record Keeps (n : ℕ) (g : Step) (k : ℕ) (s : Halves) (prev xs : List ℕ) : Type 0 where

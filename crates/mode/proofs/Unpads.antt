@@ -3,6 +3,7 @@ use Rattle.std.proofs.Common.{◌≡◌, ℕ, zero, suc, ◌+◌, ◌-◌, ◌*�
 use Rattle.std.proofs.lemmas.List.{take_at, drop_at, drop-drop, get_or-drop, get_or_append_left, get_or-append_right, length-take-le}
 use Rattle.std.proofs.lemmas.Bool.{leb-true, le-leb, and_parts, and_from, cases_Bool, cases_order, cond-true, cond-false, both_ways}
 use Rattle.mode.specs.declared.fault.Fault.TheVariants.{NotAuthentic}
+use Rattle.mode.specs.declared.setting.Admitted.{Admitted}
 use Rattle.std.specs.Str.{bytes_eq}
 use Rattle.words.specs.Bytes.{low_bytes}
 use Rattle.mode.specs.Limits.{data_most, message_most}
@@ -46,7 +47,16 @@ pub record Reaches (p : List ℕ) (r : ℕ) : Type 0 where
   pub zeros : drop r p ≡ replicate (length p - r) 0
   pub last : 0 < r → get_or p (r - 1) 0 ≡ 0 → ⊥
 
-module _ (B ν α : ℕ) (some : 0 < B) (a : ν ≤ 256) (b : α ≤ 32768) where
+-- what a setting that is admitted says of the lengths in bits
+pub record Bounds (B ν α : ℕ) : Type 0 where
+  pub some : 0 < B
+  pub nonce : ν ≤ 256
+  pub «data» : α ≤ 32768
+
+pub bounds : (B n a : ℕ) → 0 < B → B ≤ 32 → n ≤ B → a ≤ data_most → Bounds B (8 * n) (8 * a)
+bounds B n a some few hn ha = record { some = some; nonce = omega arith; «data» = omega arith }
+
+module _ (B ν α : ℕ) (within : Bounds B ν α) where
   end_byte : (M p : List ℕ) → length M ≤ message_most → pad_message B ν α M ≡ p → get_or p (length M + 12) 0 ≡ 0 → ⊥
   end_byte M p h e z =
       let m = length M in
@@ -57,7 +67,7 @@ module _ (B ν α : ℕ) (some : 0 < B) (a : ν ≤ 256) (b : α ≤ 32768) wher
       let is : p ≡ (M ++ t) ++ zs = sym e ∙ pad_message_is B ν α M in
       let k : m + 12 - m ≡ 12 = omega arith in
       let at : get_or p (m + 12) 0 ≡ get_or t 12 0 = ap (λ x. get_or x (m + 12) 0) is ∙ get_or_append_left (M ++ t) zs 0 (m + 12) (omega arith) ∙ get_or-append_right M t m (m + 12) 0 refl (omega arith) ∙ ap (λ i. get_or t i 0) k in
-      trailer-top B ν α (8 * m) a b (omega arith) (sym at ∙ z)
+      trailer-top B ν α (8 * m) within.nonce within.«data» (omega arith) (sym at ∙ z)
 
   end_zeros : (M p : List ℕ) (i : ℕ) → pad_message B ν α M ≡ p → length M + 13 ≤ i → get_or p i 0 ≡ 0
   end_zeros M p i e h =
@@ -101,7 +111,7 @@ module _ (B ν α : ℕ) (some : 0 < B) (a : ν ≤ 256) (b : α ≤ 32768) wher
       let m = length M in
       let t = trailer B ν α (8 * m) in
       let zs = replicate (cipher_length B m - (m + 13)) 0 in
-      let size : length p ≡ cipher_length B m = ap length (sym e) ∙ length-pad_message B ν α M some in
+      let size : length p ≡ cipher_length B m = ap length (sym e) ∙ length-pad_message B ν α M within.some in
       let at : m + 13 - 1 ≡ m + 12 = omega arith in
       record {
         zeros = ap (drop (m + 13)) (sym e ∙ pad_message_is B ν α M) ∙ drop_at (M ++ t) zs (m + 13) (length-message B ν α M) ∙ ap (λ k. replicate (k - (m + 13)) 0) (sym size);
@@ -128,7 +138,7 @@ module _ (B ν α : ℕ) (some : 0 < B) (a : ν ≤ 256) (b : α ≤ 32768) wher
 
   sound_below : (p M : List ℕ) (k : ℕ) → unpadded_below B ν α p k ≡ Some M → (length M ≤ message_most) × (pad_message B ν α M ≡ p)
   unfolding unpadded_below
-  sound_below p M zero e = absurd (let z : ◌≡◌ {A = ℕ} 0 1 = cc in omega arith)
+  sound_below p M zero e = cc
   sound_below p M (suc k) e =
       ⊎_elim
       (λ t.
@@ -163,8 +173,8 @@ module _ (B ν α : ℕ) (some : 0 < B) (a : ν ≤ 256) (b : α ≤ 32768) wher
   pub reads_back : (p M : List ℕ) → length M ≤ message_most → pad_message B ν α M ≡ p → unpadded B ν α p ≡ Some M
   unfolding unpadded
   reads_back p M h e =
-      let hold = blocks_hold B (length M + 13) some in
-      complete_below p M (length p) h e (omega (arith, hold.0, sym (ap length e) ∙ length-pad_message B ν α M some))
+      let hold = blocks_hold B (length M + 13) within.some in
+      complete_below p M (length p) h e (omega (arith, hold.0, sym (ap length e) ∙ length-pad_message B ν α M within.some))
 
   none_of : (p : List ℕ) (o : Option (List ℕ)) → unpadded B ν α p ≡ o → ((M : List ℕ) → length M ≤ message_most → pad_message B ν α M ≡ p → ⊥) → Err NotAuthentic ≡ message_answer o
   none_of p None e no' = refl
@@ -177,30 +187,31 @@ pub record Ended (B ν α : ℕ) (p : List ℕ) (r : ℕ) : Type 0 where
   pub size : length p ≡ cipher_length B (r - 13)
   pub last : trailer B ν α (8 * (r - 13)) ≡ take (r - (r - 13)) (drop (r - 13) p)
 
--- p is a padding just where it ends so; nonce and data have n and m bytes
-module _ (B n m : ℕ) (full : 0 < B) (hn : n ≤ 32) (hm : m ≤ data_most) (p : List ℕ) (r : ℕ) (zeros : drop r p ≡ replicate (length p - r) 0) where
-  short : 8 * n ≤ 256
-  short = omega arith
+-- p is a padding just where it ends so
+module _ (B : ℕ) (under : Admitted B) (p : List ℕ) (r : ℕ) (zeros : drop r p ≡ replicate (length p - r) 0) where
+  abbrev ν : ℕ
+  ν = 8 * length under.setting.nonce.now
 
-  few_data : 8 * m ≤ 32768
-  few_data = omega arith
+  abbrev α : ℕ
+  α = 8 * length under.setting.ad.now
 
-  pub refused : (0 < r → get_or p (r - 1) 0 ≡ 0 → ⊥) → (Ended B (8 * n) (8 * m) p r → ⊥) → Err NotAuthentic ≡ message_answer (unpadded B (8 * n) (8 * m) p)
-  refused top not_so = none_of B (8 * n) (8 * m) full short few_data p (unpadded B (8 * n) (8 * m) p) refl (λ M l e.
-      let at = reach_is B (8 * n) (8 * m) full short few_data M p r l e (record { zeros = zeros; last = top }) in
+  within : Bounds B ν α
+  within = bounds B (length under.setting.nonce.now) (length under.setting.ad.now) under.some under.few under.nonce under.ad
+
+  pub refused : (0 < r → get_or p (r - 1) 0 ≡ 0 → ⊥) → (Ended B ν α p r → ⊥) → Err NotAuthentic ≡ message_answer (unpadded B ν α p)
+  refused top not_so = none_of B ν α within p (unpadded B ν α p) refl (λ M l e.
+      let at = reach_is B ν α within M p r l e (record { zeros = zeros; last = top }) in
       let k : length M ≡ r - 13 = omega arith in
       let all : 13 ≡ r - (r - 13) = omega arith in
       not_so (record {
         low = omega arith;
         high = omega arith;
-        size = ap length (sym e) ∙ length-pad_message B (8 * n) (8 * m) M full ∙ ap (cipher_length B) k;
-        last = sym (ap (λ x. trailer B (8 * n) (8 * m) (8 * x)) k) ∙ sym (trailer_is B (8 * n) (8 * m) full short few_data M p e) ∙ ap (λ x. take 13 (drop x p)) k ∙ ap (λ x. take x (drop (r - 13) p)) all;
+        size = ap length (sym e) ∙ length-pad_message B ν α M under.some ∙ ap (cipher_length B) k;
+        last = sym (ap (λ x. trailer B ν α (8 * x)) k) ∙ sym (trailer_is B ν α within M p e) ∙ ap (λ x. take 13 (drop x p)) k ∙ ap (λ x. take x (drop (r - 13) p)) all;
       }))
 
-  pub accepted : r ≤ length p → Ended B (8 * n) (8 * m) p r → Ok (r - 13) ≡ message_answer (unpadded B (8 * n) (8 * m) p)
+  pub accepted : r ≤ length p → Ended B ν α p r → Ok (r - 13) ≡ message_answer (unpadded B ν α p)
   accepted inside E =
-      let ν = 8 * n in
-      let α = 8 * m in
       let k = r - 13 in
       let M = take k p in
       let l_m : length M ≡ k = length-take-le k p (omega arith) in
@@ -210,4 +221,4 @@ module _ (B n m : ℕ) (full : 0 < B) (hn : n ≤ 32) (hm : m ≤ data_most) (p 
       let tr : take 13 (drop k p) ≡ trailer B ν α (8 * k) = sym (E.last ∙ ap (λ x. take x (drop k p)) all) in
       let is : p ≡ (M ++ trailer B ν α (8 * k)) ++ replicate (cipher_length B k - (k + 13)) 0 = sym (take-append-drop k p) ∙ ap (λ x. M ++ x) (sym (take-append-drop 13 (drop k p))) ∙ ap (λ x. M ++ (x ++ drop 13 (drop k p))) tr ∙ ap (λ x. M ++ (trailer B ν α (8 * k) ++ x)) rest ∙ sym (append_assoc M (trailer B ν α (8 * k)) _) in
       let pads : pad_message B ν α M ≡ p = pad_message_is B ν α M ∙ ap (λ x. (M ++ trailer B ν α (8 * x)) ++ replicate (cipher_length B x - (x + 13)) 0) l_m ∙ sym is in
-      sym (ap message_answer (reads_back B ν α full short few_data p M (omega (arith, E.high)) pads) ∙ ap Ok l_m)
+      sym (ap message_answer (reads_back B ν α within p M (omega (arith, E.high)) pads) ∙ ap Ok l_m)

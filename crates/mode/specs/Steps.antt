@@ -28,21 +28,23 @@ seal_step f s prev m = turn (halves (xor_bytes (advanced f s prev).upper m) (adv
 abbrev pub open_step : (Halves → Halves) → Step
 open_step f s prev c = turn (halves c (advanced f s prev).lower) (xor_bytes (advanced f s prev).upper c) (xor_bytes (advanced f s prev).upper c)
 
--- the first k blocks of xs through the step g: xs with each block replaced, and what follows them as it was
+-- a turn and then another: what the first writes stands before what the second writes
+abbrev pub followed : Turn → Turn → Turn
+followed t r = turn r.state r.prev (t.block ++ r.block)
+
+-- the first k blocks of xs through the step g, as one turn: the state after them, the last block m (the one before them where k is 0), and xs with each block replaced, and what follows them as it was
+abbrev pub run : Step → ℕ → ℕ → Halves → List ℕ → List ℕ → Turn
+run g n zero s prev xs = turn s prev xs
+run g n (suc k) s prev xs = followed (g s prev (take n xs)) (run g n k (g s prev (take n xs)).state (g s prev (take n xs)).prev (drop n xs))
+
 abbrev pub run_out : Step → ℕ → ℕ → Halves → List ℕ → List ℕ → List ℕ
-run_out g n zero s prev xs = xs
-run_out g n (suc k) s prev xs =
-    (g s prev (take n xs)).block ++ run_out g n k (g s prev (take n xs)).state (g s prev (take n xs)).prev (drop n xs)
+run_out g n k s prev xs = (run g n k s prev xs).block
 
--- the state after them
 abbrev pub run_state : Step → ℕ → ℕ → Halves → List ℕ → List ℕ → Halves
-run_state g n zero s prev xs = s
-run_state g n (suc k) s prev xs = run_state g n k (g s prev (take n xs)).state (g s prev (take n xs)).prev (drop n xs)
+run_state g n k s prev xs = (run g n k s prev xs).state
 
--- the last block m, or the one before them where k is 0
 abbrev pub run_prev : Step → ℕ → ℕ → Halves → List ℕ → List ℕ → List ℕ
-run_prev g n zero s prev xs = prev
-run_prev g n (suc k) s prev xs = run_prev g n k (g s prev (take n xs)).state (g s prev (take n xs)).prev (drop n xs)
+run_prev g n k s prev xs = (run g n k s prev xs).prev
 
 -- the same for all blocks of xs
 abbrev pub all_out : Step → ℕ → Halves → List ℕ → List ℕ → List ℕ

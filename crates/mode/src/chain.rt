@@ -11,7 +11,8 @@ use crate::way::Way;
 use mixers::{Block, Mixer, State};
 
 // Where the chain stands: the state x'‖x, and the block before the next one, which is the nonce's before any other.
-// The mixer is passed to each step: as a field, each step would have to say that it stays.
+// The mixer is passed to each step: as a field, each step would have to say that it stays. Clauses say state and block
+// apart, since a definition's record of both holds lists, and this struct holds blocks.
 #[derive(Clone, Copy)]
 pub(crate) struct Chain<const B: usize> {
     pub(crate) state: State<B>,

@@ -24,8 +24,8 @@ pub enum Fault {
 }
 
 impl Fault {
-    // The number that stands for the refusal outside of the program. As the enum's discriminants the codes would be no
-    // plainer, and a reader would not see that they are fixed.
+    // The number that stands for the refusal outside of the program. A match, as for a sheet's faults: those carry places,
+    // and an enum whose variants carry values takes no discriminants.
     pub fn code(self) -> u8
         ensures { result ≡ code_of self }
     {

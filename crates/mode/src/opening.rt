@@ -8,17 +8,17 @@ use crate::chain::Chain;
 use crate::fault::Fault;
 use crate::guard::WipeGuard;
 use crate::limits::MESSAGE_MOST;
-use crate::padding::message_len;
 use crate::setting::{Admitted, Setting};
 use crate::way::Opening;
 use mixers::{Block, Mixer};
 
 impl<const B: usize> Admitted<'_, B> {
-    // The first refusal from the lengths of ciphertext, tag and text buffer, if any.
+    // The first refusal from the lengths of ciphertext, tag and text buffer, if any. Ciphertext and tag stay two arguments:
+    // callers have them apart, and a struct of both would be made for one call.
     fn check_lengths(&self, cipher: usize, tag: usize, room: usize) -> Result<(), Fault>
         ensures { result ≡ cipher_check B cipher tag room }
     {
-        if tag != B || cipher == 0 || cipher % B != 0 || cipher > MESSAGE_MOST + B {
+        if tag != B || cipher == 0 || !cipher.is_multiple_of(B) || cipher > MESSAGE_MOST + B {
             return Err(Fault::CipherLength);
         }
         if room < cipher {
@@ -26,64 +26,54 @@ impl<const B: usize> Admitted<'_, B> {
         }
         Ok(())
     }
-}
 
-// Writes the blocks under C into `text`, and answers the tag that C should have.
-fn write_opened<const B: usize, M: Mixer<B>>(
-    mixer: &M,
-    under: &Admitted<B>,
-    cipher: &[u8],
-    text: &mut [u8],
-) -> Block<B>
-    requires { length text.old ≡ length cipher.now }
-    ensures tag { let s = under.now.setting in result.bytes ≡ opened_tag (M.mixing mixer.now) B s.key.now s.nonce.now s.ad.now cipher.now }
-    ensures text { let s = under.now.setting in text.new ≡ opened_blocks (M.mixing mixer.now) B s.key.now s.nonce.now s.ad.now cipher.now }
-{
-    let mut chain = Chain::begin(mixer, under);
-    text.copy_from_slice(cipher);
-    chain.turn_all::<Opening, M>(mixer, text);
-    chain.tag(mixer, under)
-}
-
-// The length of the message in the opened blocks `text`, if the tag is right and they are its padding. The tag comes
-// first: the padding of a text that is not authentic is never read.
-fn judge<const B: usize>(
-    under: &Admitted<B>,
-    expected: &Block<B>,
-    tag: &[u8],
-    text: &[u8],
-) -> Result<usize, Fault>
-    requires { length tag.now ≡ B }
-    ensures answer { let s = under.now.setting in result ≡ message_answer (judged B (8 * length s.nonce.now) (8 * length s.ad.now) expected.now.bytes tag.now text.now) }
-    ensures within { IfOk result (λ len. len ≤ length text.now) }
-{
-    if same(&expected.bytes, tag) {
-        message_len(under, text)
-    } else {
-        Err(Fault::NotAuthentic)
+    // Writes the blocks under C into `text`, and answers the tag that C should have.
+    fn write_opened<M: Mixer<B>>(&self, mixer: &M, cipher: &[u8], text: &mut [u8]) -> Block<B>
+        requires { length text.old ≡ length cipher.now }
+        ensures tag { let s = self.now.setting in result.bytes ≡ opened_tag (M.mixing mixer.now) B s.key.now s.nonce.now s.ad.now cipher.now }
+        ensures text { let s = self.now.setting in text.new ≡ opened_blocks (M.mixing mixer.now) B s.key.now s.nonce.now s.ad.now cipher.now }
+    {
+        let mut chain = Chain::begin(mixer, self);
+        text.copy_from_slice(cipher);
+        chain.turn_all::<Opening, M>(mixer, text);
+        chain.tag(mixer, self)
     }
-}
 
-// Opens C and T into `text`, which is as long as C. A guard stands over it, since the text is not yet known to be
-// authentic.
-fn open_guarded<const B: usize, M: Mixer<B>>(
-    mixer: &M,
-    under: &Admitted<B>,
-    cipher: &[u8],
-    tag: &[u8],
-    text: &mut [u8],
-) -> Result<usize, Fault>
-    requires text { length text.old ≡ length cipher.now }
-    requires tag { length tag.now ≡ B }
-    ensures answer { let s = under.now.setting in result ≡ message_answer (opens (M.mixing mixer.now) B s.key.now s.nonce.now s.ad.now cipher.now tag.now) }
-    ensures text { let s = under.now.setting in text.new ≡ message_text (length cipher.now) (opens (M.mixing mixer.now) B s.key.now s.nonce.now s.ad.now cipher.now tag.now) }
-{
-    let guard = WipeGuard { text };
-    let expected = write_opened(mixer, under, cipher, guard.text);
-    let len = judge(under, &expected, tag, guard.text())?;
-    guard.text[len..].fill(0);
-    guard.release();
-    Ok(len)
+    // The length of the message in the opened blocks `text`, if the tag is right and they are its padding. The tag comes
+    // first: the padding of a text that is not authentic is never read.
+    fn judge(&self, expected: &Block<B>, tag: &[u8], text: &[u8]) -> Result<usize, Fault>
+        requires { length tag.now ≡ B }
+        ensures answer { let s = self.now.setting in result ≡ message_answer (judged B (8 * length s.nonce.now) (8 * length s.ad.now) expected.now.bytes tag.now text.now) }
+        ensures within { IfOk result (λ len. len ≤ length text.now) }
+    {
+        if same(&expected.bytes, tag) {
+            self.message_len(text)
+        } else {
+            Err(Fault::NotAuthentic)
+        }
+    }
+
+    // Opens C and T into `text`, which is as long as C. A guard stands over it, since the text is not yet known to be
+    // authentic.
+    fn open_guarded<M: Mixer<B>>(
+        &self,
+        mixer: &M,
+        cipher: &[u8],
+        tag: &[u8],
+        text: &mut [u8],
+    ) -> Result<usize, Fault>
+        requires text { length text.old ≡ length cipher.now }
+        requires tag { length tag.now ≡ B }
+        ensures answer { let s = self.now.setting in result ≡ message_answer (opens (M.mixing mixer.now) B s.key.now s.nonce.now s.ad.now cipher.now tag.now) }
+        ensures text { let s = self.now.setting in text.new ≡ message_text (length cipher.now) (opens (M.mixing mixer.now) B s.key.now s.nonce.now s.ad.now cipher.now tag.now) }
+    {
+        let guard = WipeGuard { text };
+        let expected = self.write_opened(mixer, cipher, guard.text);
+        let len = self.judge(&expected, tag, guard.text())?;
+        guard.text[len..].fill(0);
+        guard.release();
+        Ok(len)
+    }
 }
 
 // Opens ciphertext C and tag T: writes the message at the front of `text` and zeros after it up to the length of C,
@@ -102,5 +92,5 @@ pub fn open<const B: usize, M: Mixer<B>>(
 {
     let under = Admitted::new(mixer, setting)?;
     under.check_lengths(cipher.len(), tag.len(), text.len())?;
-    open_guarded(mixer, &under, cipher, tag, &mut text[..cipher.len()])
+    under.open_guarded(mixer, cipher, tag, &mut text[..cipher.len()])
 }

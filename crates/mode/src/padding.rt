@@ -34,7 +34,7 @@ impl<'a, const B: usize> Message<'a, B> {
     pub(crate) fn cipher_len(&self) -> usize
         ensures { result ≡ cipher_length B (length self.now.bytes.now) }
     {
-        (self.bytes.len() + TRAILER + (B - 1)) / B * B
+        (self.bytes.len() + TRAILER).next_multiple_of(B)
     }
 
     // The number in its trailer.
@@ -52,9 +52,9 @@ impl<'a, const B: usize> Message<'a, B> {
     fn trailer(&self) -> [u8; TRAILER]
         ensures { let s = self.now.under.setting in result ≡ trailer_of B (8 * length s.nonce.now) (8 * length s.ad.now) (8 * length self.now.bytes.now) }
     {
-        let mut trailer = [0; TRAILER];
-        trailer.copy_from_slice(&self.trailer_number().to_le_bytes()[..TRAILER]);
-        trailer
+        self.trailer_number().to_le_bytes()[..TRAILER]
+            .try_into()
+            .unwrap()
     }
 
     // Writes it, padded, over the whole of `out`.
@@ -91,22 +91,24 @@ fn reach(text: &[u8]) -> usize
         .map_or(0, |last| last + 1)
 }
 
-// The length of the message whose padding is `text`. A trailer's last byte is not zero, so only one length is possible.
-pub(crate) fn message_len<const B: usize>(under: &Admitted<B>, text: &[u8]) -> Result<usize, Fault>
-    ensures answer { let s = under.now.setting in result ≡ message_answer (unpadded B (8 * length s.nonce.now) (8 * length s.ad.now) text.now) }
-    ensures within { IfOk result (λ len. len ≤ length text.now) }
-{
-    let end = reach(text);
-    if end < TRAILER {
-        return Err(Fault::NotAuthentic);
-    }
-    let len = end - TRAILER;
-    let Ok(message) = Message::new(*under, &text[..len]) else {
-        return Err(Fault::NotAuthentic);
-    };
-    if text.len() == message.cipher_len() && same(&message.trailer(), &text[len..end]) {
-        Ok(len)
-    } else {
-        Err(Fault::NotAuthentic)
+impl<const B: usize> Admitted<'_, B> {
+    // The length of the message whose padding is `text`. A trailer's last byte is not zero, so only one length is possible.
+    pub(crate) fn message_len(&self, text: &[u8]) -> Result<usize, Fault>
+        ensures answer { let s = self.now.setting in result ≡ message_answer (unpadded B (8 * length s.nonce.now) (8 * length s.ad.now) text.now) }
+        ensures within { IfOk result (λ len. len ≤ length text.now) }
+    {
+        let end = reach(text);
+        if end < TRAILER {
+            return Err(Fault::NotAuthentic);
+        }
+        let len = end - TRAILER;
+        let Ok(message) = Message::new(*self, &text[..len]) else {
+            return Err(Fault::NotAuthentic);
+        };
+        if text.len() == message.cipher_len() && same(&message.trailer(), &text[len..end]) {
+            Ok(len)
+        } else {
+            Err(Fault::NotAuthentic)
+        }
     }
 }

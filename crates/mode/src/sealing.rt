@@ -11,17 +11,19 @@ use crate::setting::{Admitted, Setting};
 use crate::way::Sealing;
 use mixers::Mixer;
 
-// Writes C and T at the front of `out`.
-fn write_sealed<const B: usize, M: Mixer<B>>(mixer: &M, message: &Message<B>, out: &mut [u8])
-    requires { cipher_length B (length message.now.bytes.now) + B ≤ length out.old }
-    ensures { let s = message.now.under.setting in out.new ≡ over (cipher_text (M.mixing mixer.now) B s.key.now s.nonce.now s.ad.now message.now.bytes.now ++ cipher_tag (M.mixing mixer.now) B s.key.now s.nonce.now s.ad.now message.now.bytes.now) out.old }
-{
-    let mut chain = Chain::begin(mixer, &message.under);
-    let (cipher, rest) = out.split_at_mut(message.cipher_len());
-    message.pad(cipher);
-    chain.turn_all::<Sealing, M>(mixer, cipher);
-    let tag = chain.tag(mixer, &message.under);
-    rest[..B].copy_from_slice(&tag.bytes);
+impl<const B: usize> Message<'_, B> {
+    // Writes C and T at the front of `out`.
+    fn write_sealed<M: Mixer<B>>(&self, mixer: &M, out: &mut [u8])
+        requires { cipher_length B (length self.now.bytes.now) + B ≤ length out.old }
+        ensures { let s = self.now.under.setting in out.new ≡ over (cipher_text (M.mixing mixer.now) B s.key.now s.nonce.now s.ad.now self.now.bytes.now ++ cipher_tag (M.mixing mixer.now) B s.key.now s.nonce.now s.ad.now self.now.bytes.now) out.old }
+    {
+        let mut chain = Chain::begin(mixer, &self.under);
+        let (cipher, rest) = out.split_at_mut(self.cipher_len());
+        self.pad(cipher);
+        chain.turn_all::<Sealing, M>(mixer, cipher);
+        let tag = chain.tag(mixer, &self.under);
+        rest[..B].copy_from_slice(&tag.bytes);
+    }
 }
 
 // Seals `message`: writes ciphertext C and tag T at the front of `out`, and answers two lengths, of C and of C with T.
@@ -41,6 +43,6 @@ pub fn seal<const B: usize, M: Mixer<B>>(
     if out.len() < cipher + B {
         return Err(Fault::BufferTooShort);
     }
-    write_sealed(mixer, &message, out);
+    message.write_sealed(mixer, out);
     Ok((cipher, cipher + B))
 }

@@ -7,7 +7,9 @@ use crate::fault::Fault;
 use crate::limits::DATA_MOST;
 use mixers::Mixer;
 
-// Not printed and not compared, since it holds the key.
+// Key, nonce and associated data. Clauses name the three, since definitions take byte strings K, N and A, as the mode is
+// written everywhere: a record of lists would be a second struct to believe. It is not printed and not compared, since it
+// holds the key.
 #[derive(Clone, Copy)]
 pub struct Setting<'a> {
     pub key: &'a [u8],

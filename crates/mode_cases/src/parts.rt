@@ -3,7 +3,7 @@
 // The byte that buffers hold before a call.
 pub(crate) const UNTOUCHED: u8 = 0xee;
 
-// The first `n` bytes, and the rest.
+// The first `n` bytes, and the rest. The reference has such a function too, but the tests stand without the reference.
 pub(crate) fn cut(bytes: &[u8], n: usize) -> (&[u8], &[u8]) {
     bytes.split_at(n.min(bytes.len()))
 }

@@ -7,7 +7,7 @@ use std::process::Abort;
 use std::test::Fail;
 
 // The lengths of key, nonce, data, message and output buffer that sealing is called with, and what it answers. In each
-// row all that is judged later is wrong too.
+// row all that is judged later is wrong too. Each width has its rows, written out: a test's values are not computed.
 const SEALINGS: [([usize; 5], Result<(), Fault>); 11] = [
     ([0, 17, 4097, 65537, 0], Err(Fault::KeyLength)),
     ([15, 17, 4097, 65537, 0], Err(Fault::KeyLength)),
@@ -60,6 +60,15 @@ const WIDE_OPENINGS: [([usize; 6], Fault); 7] = [
     ([32, 32, 4096, 65568, 32, 65568], Fault::NotAuthentic),
 ];
 
+// Key, nonce and data of these lengths.
+fn setting(bytes: &[u8], key: usize, nonce: usize, ad: usize) -> Setting<'_> {
+    Setting {
+        key: front(bytes, key),
+        nonce: front(bytes, nonce),
+        ad: front(bytes, ad),
+    }
+}
+
 // Seals by each row.
 fn seal_rows<const B: usize, M: Mixer<B>>(
     rt: &impl Abort,
@@ -71,11 +80,7 @@ fn seal_rows<const B: usize, M: Mixer<B>>(
     for ([key, nonce, ad, message, room], expected) in rows {
         buffer.fill(UNTOUCHED);
         let room = buffer.len().min(*room);
-        let setting = Setting {
-            key: front(bytes, *key),
-            nonce: front(bytes, *nonce),
-            ad: front(bytes, *ad),
-        };
+        let setting = setting(bytes, *key, *nonce, *ad);
         let answer = seal(mixer, setting, front(bytes, *message), &mut buffer[..room]);
         assert_eq!(rt; answer.map(|_lengths| ()), *expected);
         assert!(rt; expected.is_ok() || all_are(UNTOUCHED, &buffer[..room]));
@@ -93,11 +98,7 @@ fn open_rows<const B: usize, M: Mixer<B>>(
     for ([key, nonce, ad, cipher, tag, room], fault) in rows {
         buffer.fill(UNTOUCHED);
         let room = buffer.len().min(*room);
-        let setting = Setting {
-            key: front(bytes, *key),
-            nonce: front(bytes, *nonce),
-            ad: front(bytes, *ad),
-        };
+        let setting = setting(bytes, *key, *nonce, *ad);
         let (cipher, tag) = (front(bytes, *cipher), front(bytes, *tag));
         let answer = open(mixer, setting, cipher, tag, &mut buffer[..room]);
         assert_eq!(rt; answer, Err(*fault));
@@ -111,7 +112,7 @@ fn open_rows<const B: usize, M: Mixer<B>>(
     }
 }
 
-// The refusals, with the codes of docs/REFUSALS.md.
+// The refusals, with the codes of docs/REFUSALS.md: numbers, since that is what the test is about.
 const CODES: [(Fault, u8); 7] = [
     (Fault::KeyLength, 1),
     (Fault::NonceTooLong, 2),

@@ -1,5 +1,5 @@
 // One text, sealed and opened under any mixer.
-ghost use Rattle.std.specs.Prelude.{◌≡◌, [], ◌∷◌, length, drop};
+ghost use Rattle.std.specs.Prelude.{◌≡◌, [], ◌∷◌, length, drop, ◌<◌, ◌≤◌, IfOk};
 ghost use Rattle.mode.specs.Sealing.{seal_lengths};
 
 use mixers::Mixer;
@@ -39,26 +39,21 @@ pub(crate) fn seal_text<const B: usize, M: Mixer<B>>(
     key: &[u8],
     out: &mut [u8; SEALED_MOST],
 ) -> Result<(usize, usize), Fault>
-    ensures { result ≡ seal_lengths B (length key.now) 8 10 51 96 }
+    ensures lengths { result ≡ seal_lengths B (length key.now) 8 10 51 96 }
+    ensures within { IfOk result (λ lengths. (lengths.0 < lengths.1) × (lengths.1 ≤ 96)) }
 {
     let header = header(mixer.mark());
     seal(mixer, setting(key, &header), &TEXT, out)
 }
 
-// Opens what `sealed` holds into `text`; answers the length of the message.
+// Opens what was sealed so into `text`; answers the length of the message.
 pub(crate) fn open_text<const B: usize, M: Mixer<B>>(
     mixer: &M,
     key: &[u8],
-    sealed: &[u8; SEALED_MOST],
+    cipher: &[u8],
+    tag: &[u8],
     text: &mut [u8; CIPHER],
 ) -> Result<usize, Fault> {
     let header = header(mixer.mark());
-    let end = CIPHER + mixer.block_len().min(SEALED_MOST - CIPHER);
-    open(
-        mixer,
-        setting(key, &header),
-        &sealed[..CIPHER],
-        &sealed[CIPHER..end],
-        text,
-    )
+    open(mixer, setting(key, &header), cipher, tag, text)
 }

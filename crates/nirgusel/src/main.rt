@@ -36,11 +36,11 @@ fn under<const B: usize, M: Mixer<B>>(
     key: &[u8],
 ) -> anyhow::Result<()> {
     let mut sealed = [0; SEALED_MOST];
-    let Ok((cipher, all)) = seal_text(mixer, key, &mut sealed) else {
+    let Ok((len, all)) = seal_text(mixer, key, &mut sealed) else {
         return Err(anyhow!("sealing was refused"));
     };
     println!(rt;
-        "{name}: sealed {} bytes, ciphertext {cipher}, with the tag {all}: {:02x} {:02x} {:02x} {:02x} ..",
+        "{name}: sealed {} bytes, ciphertext {len}, with the tag {all}: {:02x} {:02x} {:02x} {:02x} ..",
         TEXT.len(),
         sealed[0],
         sealed[1],
@@ -48,16 +48,18 @@ fn under<const B: usize, M: Mixer<B>>(
         sealed[3]
     )?;
     let mut text = [0xff; CIPHER];
-    match open_text(mixer, key, &sealed, &mut text) {
+    let (cipher, tag) = sealed[..all].split_at(len);
+    match open_text(mixer, key, cipher, tag, &mut text) {
         Ok(opened) if opened == TEXT.len() && text.starts_with(&TEXT) => {
             println!(rt; "{name}: opened the same text")?;
         }
         _ => return Err(anyhow!("the sealed text did not open")),
     }
 
-    sealed[CIPHER] ^= 1;
+    sealed[len] ^= 1;
     text = [0xff; CIPHER];
-    match open_text(mixer, key, &sealed, &mut text) {
+    let (cipher, tag) = sealed[..all].split_at(len);
+    match open_text(mixer, key, cipher, tag, &mut text) {
         Err(fault) if text == [0; CIPHER] => {
             let code = fault.code();
             println!(rt;

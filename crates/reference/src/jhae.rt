@@ -87,7 +87,7 @@ impl<'a> Mode<'a> {
         let heap = self.reference.heap;
         let mut out = Vec::new(heap);
         let mut link = start;
-        for block in text.chunks(self.setting.kind.block_len().max(1)) {
+        for block in text.chunks(self.setting.kind.block_len()) {
             let (upper, lower) = self.mixed(&link)?;
             let added = sum(heap, &upper, block)?;
             out.extend_from_slice(&added)?;

@@ -1,6 +1,9 @@
 // The three mixers by name, with what tells them apart.
+ghost use Rattle.std.specs.Prelude.{◌≤◌};
+
 use crate::layer::{Layer, Rule, Spread};
 use crate::width::Width;
+use std::error::Error;
 use std::fmt;
 use std::str::FromStr;
 
@@ -15,70 +18,92 @@ pub enum Kind {
 #[derive(Clone, Copy, Debug, PartialEq, Eq)]
 pub struct UnknownKind;
 
-// The round constants: in each round a word of 32 bits, and the place of its lowest bit in the state.
-const NARROW_CONSTANTS: [(u32, usize); 6] = [
-    (0x0f1e2d3b, 0),
-    (0x4b5a6978, 64),
-    (0x8796a5b4, 128),
-    (0xc3d2e1f0, 192),
-    (0x2d3c4b5a, 32),
-    (0x69788796, 160),
-];
+impl fmt::Display for UnknownKind {
+    fn fmt<W: fmt::Write>(&self, f: &mut fmt::Formatter<W>) -> fmt::Result {
+        f.write_str("a line names no mixer")
+    }
+}
 
-const WIDE_CONSTANTS: [(u32, usize); 6] = [
-    (0x0f1e2d3b, 0),
-    (0x4b5a6978, 128),
-    (0x8796a5b4, 256),
-    (0xc3d2e1f0, 384),
-    (0x2d3c4b5a, 32),
-    (0x69788796, 288),
-];
+impl Error for UnknownKind {}
 
-const NARROW_LAYERS: [Layer; 3] = [
-    Layer {
-        width: Width::SixtyFour,
-        spread: Spread::Right(15),
-        rule: Rule::FourWords,
-    },
-    Layer {
-        width: Width::Sixteen,
-        spread: Spread::Right(1),
-        rule: Rule::FourWords,
-    },
-    Layer {
-        width: Width::Eight,
-        spread: Spread::Right(3),
-        rule: Rule::TwoWords,
-    },
-];
+// A mixer of six rounds: the constants, in each round a word of 32 bits and the place of its lowest bit in the state,
+// and the layers.
+#[derive(Clone, Copy, Debug, PartialEq, Eq)]
+pub(crate) struct Permutation {
+    pub(crate) constants: [(u32, usize); 6],
+    pub(crate) layers: [Layer; 3],
+}
 
-const WIDE_LAYERS: [Layer; 3] = [
-    Layer {
-        width: Width::Full,
-        spread: Spread::Right(3),
-        rule: Rule::FourWords,
-    },
-    Layer {
-        width: Width::ThirtyTwo,
-        spread: Spread::Right(3),
-        rule: Rule::FourWords,
-    },
-    Layer {
-        width: Width::Eight,
-        spread: Spread::Turned,
-        rule: Rule::FourWords,
-    },
-];
+// Both tables of constants stand as docs/CIPHER.md has them, row by row, and neither is computed from the other.
+const NARROW: Permutation = Permutation {
+    constants: [
+        (0x0f1e2d3b, 0),
+        (0x4b5a6978, 64),
+        (0x8796a5b4, 128),
+        (0xc3d2e1f0, 192),
+        (0x2d3c4b5a, 32),
+        (0x69788796, 160),
+    ],
+    layers: [
+        Layer {
+            width: Width::SixtyFour,
+            spread: Spread::Right(15),
+            rule: Rule::FourWords,
+        },
+        Layer {
+            width: Width::Sixteen,
+            spread: Spread::Right(1),
+            rule: Rule::FourWords,
+        },
+        Layer {
+            width: Width::Eight,
+            spread: Spread::Right(3),
+            rule: Rule::TwoWords,
+        },
+    ],
+};
+
+const WIDE: Permutation = Permutation {
+    constants: [
+        (0x0f1e2d3b, 0),
+        (0x4b5a6978, 128),
+        (0x8796a5b4, 256),
+        (0xc3d2e1f0, 384),
+        (0x2d3c4b5a, 32),
+        (0x69788796, 288),
+    ],
+    layers: [
+        Layer {
+            width: Width::Full,
+            spread: Spread::Right(3),
+            rule: Rule::FourWords,
+        },
+        Layer {
+            width: Width::ThirtyTwo,
+            spread: Spread::Right(3),
+            rule: Rule::FourWords,
+        },
+        Layer {
+            width: Width::Eight,
+            spread: Spread::Turned,
+            rule: Rule::FourWords,
+        },
+    ],
+};
 
 impl Kind {
     // The bytes of a block.
-    pub fn block_len(self) -> usize {
+    pub fn block_len(self) -> usize
+        ensures least { 16 ≤ result }
+        ensures most { result ≤ 32 }
+    {
         match self {
             Kind::Narrow | Kind::Exchange => 16,
             Kind::Wide => 32,
         }
     }
 
+    // The mark is a byte of what is sealed, so it stays a number.
     pub fn mark(self) -> u8 {
         match self {
             Kind::Narrow => 1,
@@ -87,20 +112,22 @@ impl Kind {
         }
     }
 
-    // The constants of the rounds; the exchange has no rounds.
-    pub(crate) fn constants(self) -> &'static [(u32, usize)] {
+    // The width of the number of a padding that tells the nonce's length.
+    pub(crate) fn nonce_bits(self) -> u32
+        ensures { result ≤ 9 }
+    {
         match self {
-            Kind::Narrow => &NARROW_CONSTANTS,
-            Kind::Wide => &WIDE_CONSTANTS,
-            Kind::Exchange => &[],
+            Kind::Narrow | Kind::Exchange => 8,
+            Kind::Wide => 9,
         }
     }
 
-    pub(crate) fn layers(self) -> &'static [Layer] {
+    // What the rounds do; the exchange has none.
+    pub(crate) fn permutation(self) -> Option<Permutation> {
         match self {
-            Kind::Narrow => &NARROW_LAYERS,
-            Kind::Wide => &WIDE_LAYERS,
-            Kind::Exchange => &[],
+            Kind::Narrow => Some(NARROW),
+            Kind::Wide => Some(WIDE),
+            Kind::Exchange => None,
         }
     }
 }

@@ -1,11 +1,12 @@
 // The diffusion layers: groups of two or four words, spread over one another.
-ghost use Rattle.std.specs.Prelude.{◌≤◌};
+ghost use Rattle.std.specs.Prelude.{◌<◌, ◌≤◌};
 
 use crate::bytes::number;
 use crate::width::Width;
 use std::alloc::{AllocError, Global};
 
-// The function L on words.
+// The function L on words. Spread and rule are enums, with a `match` each: a layer is a row of a table, and a function
+// in a row would be a pointer.
 #[derive(Clone, Copy, Debug, PartialEq, Eq)]
 pub(crate) enum Spread {
     // (X << 1) ⊕ (X >> so many)
@@ -59,7 +60,7 @@ impl Layer {
         requires { N ≤ 4 }
     {
         let mut words = [0; N];
-        let parts = group.chunks(self.width.bytes().max(1));
+        let parts = group.chunks(self.width.bytes());
         for (word, part) in words.iter_mut().zip(parts) {
             *word = number(part);
         }
@@ -67,12 +68,13 @@ impl Layer {
     }
 
     // The bytes of a group.
-    fn group_len(self) -> usize {
-        let words = match self.rule {
-            Rule::TwoWords => 2,
-            Rule::FourWords => 4,
-        };
-        self.width.bytes().saturating_mul(words)
+    fn group_len(self) -> usize
+        ensures { 0 < result }
+    {
+        match self.rule {
+            Rule::TwoWords => 2 * self.width.bytes(),
+            Rule::FourWords => 4 * self.width.bytes(),
+        }
     }
 
     // Writes words, lowest first.
@@ -94,7 +96,7 @@ impl Layer {
     // The state after this layer.
     pub(crate) fn apply(self, heap: Global, state: &[u8]) -> Result<Vec<u8>, AllocError> {
         let mut out = Vec::new(heap);
-        for group in state.chunks(self.group_len().max(1)) {
+        for group in state.chunks(self.group_len()) {
             self.append(group, &mut out)?;
         }
         Ok(out)

@@ -1,5 +1,6 @@
 // A second implementation of the mixers and the mode, plain and slow, on lists of bytes. It shares no code with the
-// proved library, which is compared with it. Of this crate only safety is proved, not what it computes.
+// proved library, which is compared with it. Of this crate safety is proved, and bounds of some lengths, not what it
+// computes.
 #![tactic(auto)]
 
 mod bytes;

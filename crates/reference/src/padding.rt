@@ -1,6 +1,5 @@
 // The padding of data and message.
 use crate::bytes::{cut, fill};
-use crate::kind::Kind;
 use crate::refusal::{Failure, Refusal};
 use crate::setting::Setting;
 use std::alloc::{AllocError, Global};
@@ -34,13 +33,9 @@ impl Setting<'_> {
 
     // The number ν + 2^w × (α + 2^24 × (μ + 2^64)), which tells the lengths of nonce, data and message in bits.
     fn trailer(&self, message: usize) -> u128 {
-        let nonce_unit = match self.kind {
-            Kind::Wide => 512u128,
-            Kind::Narrow | Kind::Exchange => 256,
-        };
         let message_part = bits(message).wrapping_add(1 << 64).wrapping_mul(1 << 24);
         let rest = bits(self.ad.len()).wrapping_add(message_part);
-        rest.wrapping_mul(nonce_unit)
+        rest.wrapping_mul(1 << self.kind.nonce_bits())
             .wrapping_add(bits(self.nonce.len()))
     }
 

@@ -1,7 +1,8 @@
 // The mixing functions.
 use crate::bytes::cut;
 use crate::field::sbox;
-use crate::kind::Kind;
+use crate::kind::{Kind, Permutation};
+use crate::layer::Layer;
 use std::alloc::{AllocError, Global};
 
 // The second implementation, with its S-box and the allocator that its lists come from.
@@ -18,9 +19,9 @@ impl Reference {
 
     // The state after mixing. Its bytes are those of the lower block and then of the upper, lowest first.
     pub fn mix(&self, kind: Kind, state: &[u8]) -> Result<Vec<u8>, AllocError> {
-        match kind {
-            Kind::Narrow | Kind::Wide => self.rounds(kind, state),
-            Kind::Exchange => self.exchanged(kind, state),
+        match kind.permutation() {
+            Some(permutation) => self.rounds(&permutation, state),
+            None => self.exchanged(kind, state),
         }
     }
 
@@ -31,11 +32,11 @@ impl Reference {
         Ok(all)
     }
 
-    fn rounds(&self, kind: Kind, state: &[u8]) -> Result<Vec<u8>, AllocError> {
+    fn rounds(&self, permutation: &Permutation, state: &[u8]) -> Result<Vec<u8>, AllocError> {
         let mut now = state.to_vec(self.heap)?;
-        for (word, place) in kind.constants() {
+        for (word, place) in &permutation.constants {
             let added = self.added(*word, *place, &now)?;
-            now = self.spread(kind, added)?;
+            now = self.spread(&permutation.layers, added)?;
         }
         Ok(now)
     }
@@ -50,10 +51,10 @@ impl Reference {
         Ok(all)
     }
 
-    // The three layers, each with the S-box after it.
-    fn spread(&self, kind: Kind, state: Vec<u8>) -> Result<Vec<u8>, AllocError> {
+    // Layer after layer, each with the S-box after it.
+    fn spread(&self, layers: &[Layer], state: Vec<u8>) -> Result<Vec<u8>, AllocError> {
         let mut now = state;
-        for layer in kind.layers() {
+        for layer in layers {
             let spread = layer.apply(self.heap, &now)?;
             now = self.substituted(&spread)?;
         }
@@ -63,7 +64,7 @@ impl Reference {
     fn substituted(&self, state: &[u8]) -> Result<Vec<u8>, AllocError> {
         state
             .iter()
-            .map(|byte| self.sbox[*byte as usize])
+            .map(|byte| self.sbox[usize::from(*byte)])
             .collect(self.heap)
     }
 }

@@ -13,7 +13,7 @@ pub enum Refusal {
 }
 
 impl Refusal {
-    // The code of docs/REFUSALS.md.
+    // The code of docs/REFUSALS.md. A match, so that each code stands in a row of its own, as there.
     pub fn code(self) -> u8 {
         match self {
             Refusal::KeyLength => 1,

@@ -33,7 +33,7 @@ impl Setting<'_> {
         let good = tag.len() == n
             && !cipher.is_empty()
             && cipher.len().is_multiple_of(n)
-            && cipher.len() <= MESSAGE_MAX.saturating_add(n);
+            && cipher.len() <= MESSAGE_MAX + n;
         if good {
             Ok(())
         } else {

@@ -1,4 +1,6 @@
-// How wide a word is. A word is a number in a u128, below 2 to the power of its width.
+// How wide a word is. A word is a number in a u128, below 2 to the power of its width. An enum and not the number of
+// bytes, so that this is known to lie from 1 to 16.
+ghost use Rattle.std.specs.Prelude.{◌≤◌};
 
 #[derive(Clone, Copy, Debug, PartialEq, Eq)]
 pub(crate) enum Width {
@@ -10,7 +12,10 @@ pub(crate) enum Width {
 }
 
 impl Width {
-    pub(crate) fn bytes(self) -> usize {
+    pub(crate) fn bytes(self) -> usize
+        ensures least { 1 ≤ result }
+        ensures most { result ≤ 16 }
+    {
         match self {
             Width::Eight => 1,
             Width::Sixteen => 2,
@@ -22,12 +27,6 @@ impl Width {
 
     // Drops the bits that fall out of a word.
     pub(crate) fn cut(self, value: u128) -> u128 {
-        match self {
-            Width::Eight => value & 0xff,
-            Width::Sixteen => value & 0xffff,
-            Width::ThirtyTwo => value & 0xffff_ffff,
-            Width::SixtyFour => value & 0xffff_ffff_ffff_ffff,
-            Width::Full => value,
-        }
+        value & u128::MAX >> (128 - 8 * self.bytes())
     }
 }

@@ -1,7 +1,6 @@
 mod Outcomes
 mod Numbers
 mod Signs
-mod ColumnDigits
 mod Spaces
 mod OneColumn
 pub mod InRange

@@ -11,8 +11,11 @@ part_length : (l : List ℕ) (i k : ℕ) → i + k ≤ length l → length (mid_
 part_length l i k h = omega (arith, length-take k (drop i l), length-drop i l)
 
 -- numbers that have room in a part of m bytes
-pub has_room : (n k m : ℕ) → m ≡ k → 0 < k → n < 10 ^ k → n < 2 ^ 64 → length (decimal n) ≤ m
-has_room n k m e some small f = omega (arith, e, length-decimal-le k n some small f)
+pub four_have_room : (n m : ℕ) → m ≡ 4 → n < 10 ^ 4 → length (decimal n) ≤ m
+four_have_room n m e small = omega (arith, e, length-decimal-le 4 n (omega arith) small (omega arith))
+
+pub six_have_room : (n m : ℕ) → m ≡ 6 → n < 10 ^ 6 → length (decimal n) ≤ m
+six_have_room n m e small = omega (arith, e, length-decimal-le 6 n (omega arith) small (omega arith))
 
 pub has_room_signed : (z : ℤ) (k m : ℕ) → m ≡ k + 1 → mag z + 1 < 10 ^ k → mag z < 2 ^ 63 → length (signed_decimal z) ≤ m
 has_room_signed z k m e small f = omega (arith, e, length_signed_le k z small f)

@@ -1,16 +1,16 @@
 -- Digits and the number that they write.
-use Rattle.std.proofs.Common.{◌≡◌, ℕ, ◌^◌, ◌<◌, ◌≤◌, true, false, not, ◌&&◌, ◌||◌, eqb, ltb, List, [], ◌∷◌, length, get_or, Some, None, decimal, sym, refl, ap, ◌∙◌, ⊎_elim, arith, rules}
-use native.Mathlib.Nat.{pow-le-pow_right}
+use Rattle.std.proofs.Common.{◌≡◌, ℕ, ◌^◌, ◌<◌, ◌≤◌, true, false, not, ◌&&◌, ◌||◌, eqb, ltb, ◌≢◌, ◌⊎◌, List, [], ◌∷◌, length, get_or, Some, None, Ok, Err, Result, IsUtf8, decimal, sym, refl, ap, ◌∙◌, ⊎_elim, arith, rules}
 use Rattle.std.specs.Char.{is_ascii_digit}
+use Rattle.std.specs.Result.{result_ok}
 use Rattle.std.specs.Str.{all_ascii_digits}
-use Rattle.std.proofs.lemmas.Bool.{cond-true, cond-false, ne_eqb, eq-eqb, eqb-true, eqb-false, cases_eq, and_parts, and_from, or_left, or_right, or_cases, lt-ltb, ltb-true, not-true}
+use Rattle.std.specs.Str.Parse.{ParsesUnsigned}
+use Rattle.std.proofs.lemmas.Bool.{cond-true, cond-false, ne_eqb, eq-eqb, eqb-true, eqb-false, cases_eq, and_parts, and_from, or_left, or_right, or_cases, false_from_ne_true, lt-ltb, ltb-true, not-true}
 use Rattle.std.proofs.lemmas.Option.{cond_some}
-use Rattle.std.proofs.lemmas.Str.Parse.{IsNumeralModel, numerals_by_fold, digits_value_short}
-use Rattle.std.proofs.lemmas.Fmt.{digits_decimal, digits_value-decimal, decimal-digits_value, decimal_nonempty, decimal_digit, first_decimal}
+use Rattle.std.proofs.lemmas.Str.Parse.{IsNumeralModel, numerals_by_fold, digits_value_short, parse_plain}
+use Rattle.std.proofs.lemmas.Str.{IsUtf8-from_ascii}
+use Rattle.std.proofs.lemmas.Fmt.{IsAscii-from_digits, digits_decimal, digits_value-decimal, decimal-digits_value, decimal_nonempty, decimal_digit, first_decimal}
+use Rattle.sheet.proofs.Spaces.{unspaced_step}
 use Rattle.sheet.specs.Columns.{unspaced, read_on, is_number, read_number}
-
-pub small_power : (i : ℕ) → i < 9 → 10 ^ i ≤ 100000000
-small_power i h = pow-le-pow_right {n = 10} (omega arith) {i = i} {j = 8} (omega arith)
 
 pub own : IsNumeralModel (λ ds. all_ascii_digits ds ≡ true) (read_on 0)
 own = numerals_by_fold _ (search rules) read_on (search rules)
@@ -49,6 +49,31 @@ number-once ds n short r =
       sym (decimal-digits_value own ds b.0 (ltb-true 0 (length ds) a.0) (no_front ds b.1) (omega (arith, small))) ∙ ap decimal t.1,
     )
 
+-- what `parse` answers, where no plus and no zero stands in front
+module _ {E : Type 0} where
+  pub parsed : (ds : List ℕ) (r : Result ℕ E) → length ds ≤ 9 → ParsesUnsigned 32 10 ds r → get_or ds 0 0 ≢ 43 → (length ds ≤ 1 ⊎ get_or ds 0 0 ≢ 48) → result_ok r ≡ read_number ds
+  parsed ds (Ok x) short p plus front =
+      let h = parse_plain own {E = E} 32 ds (Ok x) p plus in
+      let one : (eqb (length ds) 1 || not (eqb (get_or ds 0 0) 48)) ≡ true =
+      ⊎_elim
+      (λ l. or_left (eqb (length ds) 1) _ (eq-eqb (length ds) 1 (omega (arith, h.0.1, l))))
+      (λ n. or_right (eqb (length ds) 1) _ (ap not (ne_eqb (get_or ds 0 0) 48 n)))
+      front in
+      ap Some h.1 ∙ sym (cond-true (is_number ds) (Some (read_on 0 ds)) None (and_from (ltb 0 (length ds)) _ (lt-ltb 0 (length ds) h.0.1) (and_from (all_ascii_digits ds) _ h.0.0 one)))
+  parsed ds (Err e) short p plus front =
+      let h = parse_plain own {E = E} 32 ds (Err e) p plus in
+      sym (cond-false (is_number ds) (Some (read_on 0 ds)) None (false_from_ne_true (is_number ds) (λ t.
+      let a = and_parts (ltb 0 (length ds)) _ t in
+      let d = (and_parts (all_ascii_digits ds) _ a.1).0 in
+      h (d, ltb-true 0 (length ds) a.0, omega (arith, digits_value_short own ds 9 d short)))))
+
+-- digits are a `str`
+pub not_utf8 : (ds : List ℕ) → (IsUtf8 ds → ⊥) → read_number ds ≡ None
+not_utf8 ds n =
+    cond-false (is_number ds) (Some (read_on 0 ds)) None (false_from_ne_true (is_number ds) (λ t.
+    let d = (and_parts (all_ascii_digits ds) _ (and_parts (ltb 0 (length ds)) _ t).1).0 in
+    n (IsUtf8-from_ascii ds (IsAscii-from_digits ds (own.to ds d)))))
+
 -- the first digit is no space and no minus
 first_digit : (ds : List ℕ) → 0 < length ds → all_ascii_digits ds ≡ true → 48 ≤ get_or ds 0 0
 first_digit [] some d = absurd (omega arith)
@@ -60,7 +85,7 @@ no_minus n f = ne_eqb (get_or (decimal n) 0 0) 45 (omega (arith, first_digit (de
 
 bare_digits : (ds : List ℕ) → 48 ≤ get_or ds 0 0 → unspaced ds ≡ ds
 bare_digits [] d = refl
-bare_digits (c ∷ cs) d = cond-false (eqb c 32) (unspaced cs) (c ∷ cs) (ne_eqb c 32 (omega arith))
+bare_digits (c ∷ cs) d = unspaced_step c cs ∙ cond-false (eqb c 32) (unspaced cs) (c ∷ cs) (ne_eqb c 32 (omega arith))
 
 pub bare_number : (n : ℕ) → n < 2 ^ 64 → unspaced (decimal n) ≡ decimal n
 bare_number n f = bare_digits (decimal n) (first_digit (decimal n) (decimal_nonempty n f) (digits_decimal own n f))

@@ -1,4 +1,5 @@
--- What is written in a column is read back, and what is read is what would be written.
+-- What is written in a column is read back, and what is read is what would be written: one to one. Nothing cites it yet;
+-- the calls on whole texts will stand on it.
 use Rattle.std.proofs.Common.{◌≡◌, ℕ, ◌+◌, ◌-◌, ◌^◌, ◌<◌, ◌≤◌, true, leb, List, ◌++◌, length, replicate, ℤ, Ok, Err, Some, decimal, ok_or, sym, ap, ◌∙◌, arith, length-append}
 use lib.Signed.{le_z, mag}
 use Rattle.std.specs.Fmt.{signed_decimal}

@@ -1,4 +1,4 @@
--- What an Ok or a Some tells of where it came from.
+-- What an Ok or a Some tells of where it came from. `OneColumn` stands on it, and the calls on whole texts will.
 use Rattle.std.proofs.Common.{◌≡◌, Bool, true, false, cond, Some, None, Option, Ok, Err, Result, ok_or, refl}
 use Rattle.sheet.specs.Faults.{through, carried}
 use Rattle.sheet.specs.declared.fault.ColumnFault.{ColumnFault}

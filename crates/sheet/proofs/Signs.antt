@@ -1,4 +1,4 @@
--- Numbers that may be below zero, and what is written for them.
+-- Numbers that may be below zero, and what is written for them: columns of trims are one to one by it, in `OneColumn`.
 use Rattle.std.proofs.Common.{◌≡◌, ℕ, zero, suc, ◌^◌, ◌<◌, ◌≤◌, eqb, List, [], ◌∷◌, length, get_or, drop, ℤ, pos, negsuc, Some, None, Option, option_map, option_and_then, decimal, sym, refl, ap, ◌∙◌, ⊎_elim, arith, length-drop}
 use lib.Signed.{mag}
 use Rattle.std.specs.Fmt.{signed_decimal}

@@ -1,6 +1,7 @@
 -- A column of text: spaces, and then a number in decimal digits up to the column's end.
 use Rattle.std.specs.Prelude.{ℕ, ◌+◌, ◌-◌, ◌*◌, Bool, cond, not, ◌&&◌, ◌||◌, List, [], ◌∷◌, ◌++◌, length, drop, replicate, ℤ, pos, neg_ℤ, Some, None, Option, Ok, Err, decimal, Result, ◌==◌, int_le, nat_le, nat_lt, slice_index, ok_or, option_map, option_and_then}
 use Rattle.std.specs.Fmt.{signed_decimal}
+use Rattle.std.specs.List.{prefix_len}
 use Rattle.std.specs.Str.{all_ascii_digits}
 use Rattle.sheet.specs.Faults.{place_at, through}
 use Rattle.sheet.specs.declared.column.Column.{Column}
@@ -47,8 +48,7 @@ column_at line number least most = record { place = place_at line number; least 
 
 -- what follows the spaces in front
 abbrev pub unspaced : List ℕ → List ℕ
-unspaced [] = []
-unspaced (c ∷ cs) = cond (c == 32) (unspaced cs) (c ∷ cs)
+unspaced bs = drop (prefix_len (λ c. c == 32) bs) bs
 
 -- a text at the right end of a column of w bytes
 abbrev pub at_right : ℕ → List ℕ → List ℕ

@@ -1,5 +1,6 @@
 -- The code of each fault, with the line and column that go with it, and how a fault is carried up.
 use Rattle.std.specs.Prelude.{ℕ, Some, None, Ok, Err, Option, Result}
+use Rattle.std.specs.Result.{result_map_both}
 use Rattle.sheet.specs.declared.fault.ColumnFault.{ColumnFault}
 use Rattle.sheet.specs.declared.fault.ColumnFault.TheVariants.{Shape, Range}
 use Rattle.sheet.specs.declared.fault.Fault.{Fault}
@@ -26,22 +27,15 @@ place_of NoSuchZone = None
 abbrev pub place_at : ℕ → ℕ → Place
 place_at line col = record { line = line; column = col }
 
--- go on with what an Ok holds; a fault ends it
+-- go on with what an Ok holds; a fault ends it: `and_then`, for which std has no word
 abbrev pub through : {A B E : Type 0} → Result A E → (A → Result B E) → Result B E
 through (Ok x) next = next x
 through (Err e) next = Err e
 
 -- a column's fault, whole, as one of the sheet
 abbrev pub carried : {A : Type 0} → Result A ColumnFault → Result A Fault
-carried (Ok x) = Ok x
-carried (Err e) = Err (Column e)
+carried r = result_map_both (λ x. x) Column r
 
 -- done, or the same fault
 abbrev pub answered : {A E : Type 0} → Result A E → Result Unit E
-answered (Ok x) = Ok tt
-answered (Err e) = Err e
-
--- what came, or else what was there
-abbrev pub or_else : {A E : Type 0} → Result A E → A → A
-or_else (Ok x) old = x
-or_else (Err e) old = old
+answered r = result_map_both (λ _. tt) (λ e. e) r

@@ -4,6 +4,7 @@ ghost use Rattle.sheet.specs.Columns.{column_at, unspaced, allows, between, read
 
 use crate::fault::{ColumnFault, Place};
 use crate::numeral::Numeral;
+use itoa::Buffer;
 
 // Where a column stands, and the least and the most that it may hold.
 #[derive(Clone, Copy)]
@@ -37,7 +38,7 @@ impl<N: Numeral> Column<N> {
         }
     }
 
-    // The number that stands in the column.
+    // The number that stands in the column. No column has more than nine bytes, so that the number fits.
     pub(crate) fn read(self, bytes: &[u8]) -> Result<N, ColumnFault>
         requires { length bytes.now ≤ 9 }
         ensures value { result ≡ read_column N.numerals self bytes.now }
@@ -62,6 +63,9 @@ pub(crate) fn write_column<N: Numeral>(out: &mut [u8], n: N)
     requires { length (N.numerals.text n) ≤ length out.old }
     ensures { out.new ≡ column_of N.numerals (length out.old) n }
 {
-    let from = n.write(out);
-    out[..from].fill(b' ');
+    let mut buffer = Buffer::new();
+    let text = buffer.format(n).as_bytes();
+    let (front, end) = out.split_at_mut(out.len() - text.len());
+    front.fill(b' ');
+    end.copy_from_slice(text);
 }

@@ -9,6 +9,21 @@ use crate::column::{Column, write_column};
 use crate::fault::{ColumnFault, Fault, Place};
 use crate::limits::*;
 use crate::zone::Zone;
+use std::ops::Range;
+
+// Where the columns of line 0 stand.
+const GRADE: Range<usize> = 0..6;
+
+const COUNT: Range<usize> = 6..10;
+
+const WIDTH: Range<usize> = 10..16;
+
+// Where those of a zone's line stand.
+const NUMBER: Range<usize> = 0..4;
+
+const TARGET: Range<usize> = 4..10;
+
+const TRIM: Range<usize> = 10..16;
 
 // What line 0 tells besides the count of zones.
 #[derive(Clone, Copy)]
@@ -39,7 +54,8 @@ fn read_end(line: usize, bytes: &[u8; LINE_BYTES]) -> Result<(), ColumnFault>
     Ok(())
 }
 
-// Line 0 of a text of `count` zones.
+// Line 0 of a text of `count` zones. Counts and numbers of zones stay `usize`, with their bound in each `requires`: a type
+// with it would be opened and made again wherever zones are counted or a line is placed, and is no plainer.
 pub(crate) fn read_head(count: usize, bytes: &[u8; LINE_BYTES]) -> Result<Head, ColumnFault>
     requires { count ≤ zones_most }
     ensures value { result ≡ read_head count bytes.now }
@@ -47,9 +63,9 @@ pub(crate) fn read_head(count: usize, bytes: &[u8; LINE_BYTES]) -> Result<Head, 
     ensures widths { IfOk result (λ h. (width_least ≤ h.width) × (h.width ≤ width_most)) }
 {
     let zones = count as u32;
-    let grade = Column::at(0, 1, 1, GRADE_MOST).read(&bytes[0..6])?;
-    Column::at(0, 2, zones, zones).read(&bytes[6..10])?;
-    let width = Column::at(0, 3, WIDTH_LEAST, WIDTH_MOST).read(&bytes[10..16])?;
+    let grade = Column::at(0, 1, 1, GRADE_MOST).read(&bytes[GRADE])?;
+    Column::at(0, 2, zones, zones).read(&bytes[COUNT])?;
+    let width = Column::at(0, 3, WIDTH_LEAST, WIDTH_MOST).read(&bytes[WIDTH])?;
     read_end(0, bytes)?;
     Ok(Head {
         grade,
@@ -64,9 +80,9 @@ pub(crate) fn read_zone(i: usize, bytes: &[u8; LINE_BYTES]) -> Result<Zone, Colu
     ensures bounds { IfOk result (λ z. ZoneInRange z) }
 {
     let number = i as u32;
-    Column::at(i, 1, number, number).read(&bytes[0..4])?;
-    let target = target_column(i).read(&bytes[4..10])?;
-    let trim = trim_column(i).read(&bytes[10..16])?;
+    Column::at(i, 1, number, number).read(&bytes[NUMBER])?;
+    let target = target_column(i).read(&bytes[TARGET])?;
+    let trim = trim_column(i).read(&bytes[TRIM])?;
     read_end(i, bytes)?;
     Ok(Zone {
         target: target as u16,
@@ -84,31 +100,32 @@ pub(crate) fn judge_zone(i: usize, zone: Zone) -> Result<(), ColumnFault>
     Ok(())
 }
 
-pub(crate) fn write_head(grade: u32, count: usize, width: u16, out: &mut [u8; LINE_BYTES])
-    requires grades { grade ≤ grade_most }
+#[tactic(auto, using(crate::proofs::LineLaid::four_have_room, crate::proofs::LineLaid::six_have_room))]
+pub(crate) fn write_head(head: Head, count: usize, out: &mut [u8; LINE_BYTES])
+    requires grades { head.grade ≤ grade_most }
     requires counts { count ≤ zones_most }
-    requires widths { width ≤ width_most }
-    ensures { out.new ≡ head_text grade count width }
+    requires widths { head.width ≤ width_most }
+    ensures { out.new ≡ head_text head.grade count head.width }
 {
-    write_column(&mut out[0..6], grade);
-    write_column(&mut out[6..10], count as u32);
-    write_column(&mut out[10..16], u32::from(width));
+    write_column(&mut out[GRADE], head.grade);
+    write_column(&mut out[COUNT], count as u32);
+    write_column(&mut out[WIDTH], u32::from(head.width));
     out[LINE_BYTES - 1] = b'\n';
 }
 
+#[tactic(auto, using(crate::proofs::LineLaid::four_have_room, crate::proofs::LineLaid::six_have_room))]
 pub(crate) fn write_zone(i: usize, zone: Zone, out: &mut [u8; LINE_BYTES])
     requires number { i ≤ zones_most }
     requires bounds { ZoneInRange zone }
     ensures { out.new ≡ zone_text i zone }
 {
-    write_column(&mut out[0..4], i as u32);
-    write_column(&mut out[4..10], u32::from(zone.target));
-    write_column(&mut out[10..16], i32::from(zone.trim));
+    write_column(&mut out[NUMBER], i as u32);
+    write_column(&mut out[TARGET], u32::from(zone.target));
+    write_column(&mut out[TRIM], i32::from(zone.trim));
     out[LINE_BYTES - 1] = b'\n';
 }
 
-// How many zones a text of so many bytes has. Counts stay `usize`: a type with their bound would be opened and made
-// again at each step that counts zones, and is no plainer.
+// How many zones a text of so many bytes has.
 pub(crate) fn count_zones(bytes: usize) -> Result<usize, Fault>
     ensures value { result ≡ count_zones bytes }
     ensures bounds { IfOk result (λ n. (1 ≤ n) × (n ≤ zones_most) × (bytes ≡ text_bytes n)) }

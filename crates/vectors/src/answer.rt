@@ -19,7 +19,7 @@ fn fault_of(refusal: Refusal) -> Fault {
     }
 }
 
-// What the reference answered.
+// What the reference answered. A function too, since both are types of other crates.
 pub(crate) fn answer_of(given: Result<Vec<u8>, Failure>) -> Result<Answer, AllocError> {
     match given {
         Ok(bytes) => Ok(Ok(bytes)),
@@ -28,7 +28,8 @@ pub(crate) fn answer_of(given: Result<Vec<u8>, Failure>) -> Result<Answer, Alloc
     }
 }
 
-// The refusals, with the codes of docs/REFUSALS.md. The reference has no buffer that could be too short.
+// The refusals, with the codes of docs/REFUSALS.md: numbers, since both sides are held to them. The reference has no
+// buffer that could be too short.
 const CODES: [(Refusal, u8); 6] = [
     (Refusal::KeyLength, 1),
     (Refusal::NonceTooLong, 2),

@@ -1,6 +1,7 @@
 // Strings of bits, most significant first: a list of zeros and ones.
 use crate::bytes::cut_last;
-use anyhow::anyhow;
+use crate::fields::small_digits;
+use anyhow::Context;
 use std::alloc::{AllocError, Global};
 
 // The bits of a field HEX/BITS: so many low bits of the number. `-` has none.
@@ -8,21 +9,20 @@ pub(crate) fn bits_of(heap: Global, field: &str) -> anyhow::Result<Vec<u8>> {
     if field == "-" {
         return Ok(Vec::new(heap));
     }
-    let Some((digits, count)) = field.split_once('/') else {
-        return Err(anyhow!("a field of bits has no count"));
-    };
+    let (digits, count) = field
+        .split_once('/')
+        .context("a field of bits has no count")?;
     let all = digits_bits(heap, digits)?;
     let (_high, low) = cut_last(&all, count.parse::<usize>()?);
     Ok(low.to_vec(heap)?)
 }
 
 fn digits_bits(heap: Global, digits: &str) -> anyhow::Result<Vec<u8>> {
+    small_digits(digits)?;
     let mut all = Vec::new(heap);
     for digit in digits.chars() {
-        match digit.to_digit(16) {
-            Some(value) => push_number(&mut all, value as usize, 4)?,
-            None => return Err(anyhow!("a field has what is no digit")),
-        }
+        let value = digit.to_digit(16).context("a field has what is no digit")?;
+        push_number(&mut all, value as usize, 4)?;
     }
     Ok(all)
 }

@@ -81,15 +81,14 @@ impl Copies<'_> {
 
     // Edits each block but the last, which is the tag.
     fn block_edits(&mut self, setting: &Setting, sealed: &[u8]) -> anyhow::Result<()> {
-        let n = setting.kind.block_len().max(1);
-        let pairs = (sealed.len() / n).saturating_sub(1);
-        for i in 0..pairs {
-            self.edit_pair(setting, sealed, i.saturating_mul(n))?;
+        let n = setting.kind.block_len();
+        for from in (0..sealed.len().saturating_sub(n)).step_by(n) {
+            self.edit_pair(setting, sealed, from)?;
         }
         Ok(())
     }
 
-    // Opens with nonce or data one zero byte longer.
+    // Opens with nonce or data one zero byte longer. Each has its lines: a closure that says which is no plainer.
     fn longer(&mut self, shape: Shape, sealed: &[u8]) -> anyhow::Result<()> {
         let kind = self.pair.kind;
         let mut inputs = Inputs::of(self.pair.sides.heap, shape)?;

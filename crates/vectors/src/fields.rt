@@ -1,18 +1,30 @@
 // Lines of a file and their fields.
 use crate::inputs::Inputs;
-use anyhow::anyhow;
+use anyhow::ensure;
 use reference::Kind;
 use std::alloc::Global;
+use std::str::SplitWhitespace;
 
 // The bytes that two digits each stand for; `-` stands for none.
 pub(crate) fn unhex(heap: Global, text: &str) -> anyhow::Result<Vec<u8>> {
     if text == "-" {
         return Ok(Vec::new(heap));
     }
+    small_digits(text)?;
     Ok(hex::decode(heap, text)?)
 }
 
-// Calls `each` with number and text of each line that is no comment; answers how many there are.
+// The files have no capital digits.
+pub(crate) fn small_digits(text: &str) -> anyhow::Result<()> {
+    ensure!(
+        !text.bytes().any(|byte| byte.is_ascii_uppercase()),
+        "a field has what is no digit"
+    );
+    Ok(())
+}
+
+// Calls `each` with number and text of each line that is no comment; answers how many there are. They are counted by
+// hand: over a `filter` the loop's proof did not close.
 pub(crate) fn each_line<F: FnMut(usize, &str) -> anyhow::Result<()>>(
     text: &str,
     mut each: F,
@@ -20,61 +32,57 @@ pub(crate) fn each_line<F: FnMut(usize, &str) -> anyhow::Result<()>>(
     requires { F.IsAlwaysCallable each }
 {
     let mut count = 0usize;
-    for (i, line) in text.lines().enumerate() {
+    for (number, line) in (1..).zip(text.lines()) {
         if !line.starts_with('#') {
-            each(i.saturating_add(1), line)?;
+            each(number, line)?;
             count = count.saturating_add(1);
         }
     }
     Ok(count)
 }
 
-// The fields of a line, between spaces.
+// The fields of a line, between spaces, from the next one on. Past the last there is no text.
 #[derive(Drop)]
 pub(crate) struct Fields<'a> {
-    all: Vec<&'a str>,
+    rest: SplitWhitespace<'a>,
 }
 
 impl<'a> Fields<'a> {
-    pub(crate) fn of(heap: Global, line: &'a str) -> anyhow::Result<Fields<'a>> {
-        let all = line.split_whitespace().collect(heap)?;
-        Ok(Fields { all })
-    }
-
-    // Field `i`, or no text.
-    pub(crate) fn at(&self, i: usize) -> &'a str {
-        self.all.get(i).copied().unwrap_or("")
-    }
-
-    // The mixer that the first field names.
-    pub(crate) fn kind(&self) -> anyhow::Result<Kind> {
-        match self.at(0).parse::<Kind>() {
-            Ok(kind) => Ok(kind),
-            Err(_) => Err(anyhow!("a line names no mixer")),
+    pub(crate) fn of(line: &'a str) -> Fields<'a> {
+        Fields {
+            rest: line.split_whitespace(),
         }
     }
 
-    // Key, nonce, data and message in four fields from `i` on, each as `read` reads it.
+    pub(crate) fn next(&mut self) -> &'a str {
+        self.rest.next().unwrap_or("")
+    }
+
+    // The mixer that the next field names.
+    pub(crate) fn kind(&mut self) -> anyhow::Result<Kind> {
+        Ok(self.next().parse::<Kind>()?)
+    }
+
+    // Key, nonce, data and message in the next four fields, each as `read` reads it.
     pub(crate) fn inputs<F: Fn(Global, &str) -> anyhow::Result<Vec<u8>>>(
-        &self,
+        &mut self,
         heap: Global,
-        i: usize,
         read: F,
     ) -> anyhow::Result<Inputs>
         requires { F.IsAlwaysCallable read }
     {
         Ok(Inputs {
-            key: read(heap, self.at(i))?,
-            nonce: read(heap, self.at(i.saturating_add(1)))?,
-            ad: read(heap, self.at(i.saturating_add(2)))?,
-            message: read(heap, self.at(i.saturating_add(3)))?,
+            key: read(heap, self.next())?,
+            nonce: read(heap, self.next())?,
+            ad: read(heap, self.next())?,
+            message: read(heap, self.next())?,
         })
     }
 
-    // The fields `i` and `i` + 1, ciphertext and tag, as one list of bytes.
-    pub(crate) fn sealed(&self, heap: Global, i: usize) -> anyhow::Result<Vec<u8>> {
-        let mut all = unhex(heap, self.at(i))?;
-        all.extend_from_slice(&unhex(heap, self.at(i.saturating_add(1)))?)?;
+    // The next two fields, ciphertext and tag, as one list of bytes.
+    pub(crate) fn sealed(&mut self, heap: Global) -> anyhow::Result<Vec<u8>> {
+        let mut all = unhex(heap, self.next())?;
+        all.extend_from_slice(&unhex(heap, self.next())?)?;
         Ok(all)
     }
 }

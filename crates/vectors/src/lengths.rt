@@ -48,15 +48,15 @@ impl Pair<'_> {
 
     fn data(&self) -> anyhow::Result<usize> {
         let b = self.kind.block_len();
-        let lengths = [0, 1, b.saturating_sub(1), b, b.saturating_add(1), 4096];
+        let lengths = [0, 1, b - 1, b, b + 1, 4096];
         self.agree_on("data length", &lengths, Shape::with_ad)
     }
 
     // The lengths of key, nonce, data and message that sealing refuses, and the refusal.
     fn refused_sealings(&self) -> anyhow::Result<usize> {
         let b = self.kind.block_len();
-        let more = b.saturating_add(1);
-        let less = b.saturating_sub(1);
+        let more = b + 1;
+        let less = b - 1;
         let rows = [
             ([0, 8, 10, 51], Fault::KeyLength),
             ([less, 8, 10, 51], Fault::KeyLength),
@@ -80,9 +80,9 @@ impl Pair<'_> {
     // last row they are good, and what is opened is not authentic.
     fn refused_openings(&self) -> anyhow::Result<usize> {
         let b = self.kind.block_len();
-        let more = b.saturating_add(1);
-        let less = b.saturating_sub(1);
-        let most = b.saturating_add(65536);
+        let more = b + 1;
+        let less = b - 1;
+        let most = 65536 + b;
         let rows = [
             ([less, 8, 10, b], b, Fault::KeyLength),
             ([more, 8, 10, b], b, Fault::KeyLength),
@@ -93,7 +93,7 @@ impl Pair<'_> {
             ([b, 8, 10, 0], b, Fault::CipherLength),
             ([b, 8, 10, less], b, Fault::CipherLength),
             ([b, 8, 10, more], b, Fault::CipherLength),
-            ([b, 8, 10, most.saturating_add(b)], b, Fault::CipherLength),
+            ([b, 8, 10, most + b], b, Fault::CipherLength),
             ([b, 8, 10, most], b, Fault::NotAuthentic),
         ];
         for (i, (lengths, tag, fault)) in rows.iter().enumerate() {

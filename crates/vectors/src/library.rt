@@ -5,7 +5,7 @@ use crate::answer::Answer;
 use crate::bytes::joined;
 use crate::sides::Side;
 use mixers::{Block, Exchange, Mixer, Narrow, State, Wide};
-use mode::{open, seal};
+use mode::{Fault, open, seal};
 use reference::{Kind, Setting, cut};
 use std::alloc::{AllocError, Global};
 
@@ -14,8 +14,8 @@ pub(crate) const KINDS: [Kind; 3] = [Kind::Narrow, Kind::Wide, Kind::Exchange];
 // More than padding and tag take.
 const ROOM: usize = 96;
 
-// What `$job` is with the mixer of this name as `$mixer`. No closure can take a mixer whose block length is open, and
-// a bound can't name the `dyn` that would hide it.
+// What `$job` is with the mixer of this name as `$mixer`. A closure for the job can't be generic over the block length,
+// and behind a `dyn Mixer<B>` nothing is proved of a trait with a parameter, nor may a function hand one out.
 macro_rules! with_mixer {
     ($kind:expr, $mixer:ident => $job:expr) => {
         match $kind {
@@ -52,7 +52,7 @@ fn mix_with<const B: usize, M: Mixer<B>>(
     joined(heap, &blocks.lower.bytes, &blocks.upper.bytes)
 }
 
-// What the library takes of a setting, beside the mixer.
+// What the library takes of a setting, beside the mixer. Neither type is of this crate, so that no `From` can stand here.
 fn under<'a>(setting: &Setting<'a>) -> mode::Setting<'a> {
     mode::Setting {
         key: setting.key,
@@ -81,6 +81,13 @@ impl Library {
     }
 }
 
+// As much of a buffer as a call answers that it wrote.
+fn front_of(mut buffer: Vec<u8>, answer: Result<usize, Fault>) -> Answer {
+    let len = answer?;
+    buffer.truncate(len);
+    Ok(buffer)
+}
+
 impl Side for Library {
     fn mixed(&self, kind: Kind, state: &[u8]) -> Result<Vec<u8>, AllocError> {
         with_mixer!(kind, mixer => mix_with(self.heap, &mixer, state))
@@ -88,24 +95,15 @@ impl Side for Library {
 
     fn sealed(&self, setting: &Setting, message: &[u8]) -> Result<Answer, AllocError> {
         let mut out = vec![in self.heap; 0u8; message.len().saturating_add(ROOM)]?;
-        match with_mixer!(setting.kind, mixer => seal(&mixer, under(setting), message, &mut out)) {
-            Ok((_cipher, all)) => {
-                out.truncate(all);
-                Ok(Ok(out))
-            }
-            Err(fault) => Ok(Err(fault)),
-        }
+        let answer =
+            with_mixer!(setting.kind, mixer => seal(&mixer, under(setting), message, &mut out));
+        Ok(front_of(out, answer.map(|(_cipher, all)| all)))
     }
 
     fn opened(&self, setting: &Setting, cipher: &[u8], tag: &[u8]) -> Result<Answer, AllocError> {
         let mut text = vec![in self.heap; 0u8; cipher.len()]?;
-        match with_mixer!(setting.kind, mixer => open(&mixer, under(setting), cipher, tag, &mut text))
-        {
-            Ok(len) => {
-                text.truncate(len);
-                Ok(Ok(text))
-            }
-            Err(fault) => Ok(Err(fault)),
-        }
+        let answer =
+            with_mixer!(setting.kind, mixer => open(&mixer, under(setting), cipher, tag, &mut text));
+        Ok(front_of(text, answer))
     }
 }

@@ -37,9 +37,13 @@ fn run_tables(rt: &impl Print, sides: &Sides) -> anyhow::Result<()> {
 // What is compared with the files.
 fn run_files(rt: &HostRuntime, sides: &Sides) -> anyhow::Result<()> {
     let text = std::fs::read_to_string(rt, "published.txt")?;
-    rt.println(published_vectors(sides, text.as_str())?)?;
+    let count = published_vectors(sides, text.as_str())?;
+    println!(rt;
+        "published vectors, in their own convention: {count} sealed by both mixings; as whole bytes in our order {count} give other bytes"
+    )?;
     let text = std::fs::read_to_string(rt, "regression.txt")?;
-    rt.println(stored_vectors(sides, text.as_str())?)?;
+    let count = stored_vectors(sides, text.as_str())?;
+    println!(rt; "stored vectors: {count} sealed and opened by both")?;
     Ok(())
 }
 

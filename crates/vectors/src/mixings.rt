@@ -24,7 +24,7 @@ impl Pair<'_> {
     fn zeros(&self) -> anyhow::Result<()> {
         let heap = self.sides.heap;
         let case = self.case("state of zeros", 0);
-        let state = vec![in heap; 0u8; self.kind.block_len().saturating_mul(2)]?;
+        let state = vec![in heap; 0u8; 2 * self.kind.block_len()]?;
         let mixed = self.sides.mix(case, &state)?;
         if mixed != reversed(heap, &unhex(heap, mixed_zeros(self.kind))?)? {
             return Err(case.fails("both mix it to another state than they should"));
@@ -34,7 +34,7 @@ impl Pair<'_> {
 
     // States without a pattern.
     fn samples(&self) -> anyhow::Result<()> {
-        let len = self.kind.block_len().saturating_mul(2);
+        let len = 2 * self.kind.block_len();
         for i in 0..STATES {
             let case = self.case("sampled state", i as usize);
             let _mixed = self.sides.mix(case, &sample(self.sides.heap, i, len)?)?;
@@ -53,7 +53,7 @@ impl Pair<'_> {
         self.samples()?;
         Ok(Mixings {
             kind,
-            states: (STATES as usize).saturating_add(1),
+            states: STATES as usize + 1,
         })
     }
 }

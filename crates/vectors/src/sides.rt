@@ -30,6 +30,14 @@ impl Side for Reference {
     }
 }
 
+// What both answer; `how` says that they answer otherwise.
+fn alike<T: PartialEq + Drop>(case: Case, how: &str, ours: T, theirs: &T) -> anyhow::Result<T> {
+    if ours != *theirs {
+        return Err(case.fails(how));
+    }
+    Ok(ours)
+}
+
 #[derive(Drop)]
 pub(crate) struct Sides {
     pub(crate) heap: Global,
@@ -48,11 +56,9 @@ impl Sides {
 
     // What both mix a state to.
     pub(crate) fn mix(&self, case: Case, state: &[u8]) -> anyhow::Result<Vec<u8>> {
-        let mixed = self.library.mixed(case.kind, state)?;
-        if mixed != self.reference.mixed(case.kind, state)? {
-            return Err(case.fails("the two do not mix alike"));
-        }
-        Ok(mixed)
+        let ours = self.library.mixed(case.kind, state)?;
+        let theirs = self.reference.mixed(case.kind, state)?;
+        alike(case, "the two do not mix alike", ours, &theirs)
     }
 
     // What both answer to a sealing.
@@ -62,11 +68,9 @@ impl Sides {
         setting: &Setting,
         message: &[u8],
     ) -> anyhow::Result<Answer> {
-        let answer = self.library.sealed(setting, message)?;
-        if answer != self.reference.sealed(setting, message)? {
-            return Err(case.fails("the two do not seal alike"));
-        }
-        Ok(answer)
+        let ours = self.library.sealed(setting, message)?;
+        let theirs = self.reference.sealed(setting, message)?;
+        alike(case, "the two do not seal alike", ours, &theirs)
     }
 
     // What both answer to an opening.
@@ -77,11 +81,9 @@ impl Sides {
         cipher: &[u8],
         tag: &[u8],
     ) -> anyhow::Result<Answer> {
-        let answer = self.library.opened(setting, cipher, tag)?;
-        if answer != self.reference.opened(setting, cipher, tag)? {
-            return Err(case.fails("the two do not open alike"));
-        }
-        Ok(answer)
+        let ours = self.library.opened(setting, cipher, tag)?;
+        let theirs = self.reference.opened(setting, cipher, tag)?;
+        alike(case, "the two do not open alike", ours, &theirs)
     }
 
     // What both seal `message` to, and open again to `message`.
@@ -102,7 +104,7 @@ impl Sides {
     }
 }
 
-// The two under one mixer.
+// The two under one mixer. Cases and settings name it too: they are made for the files of vectors as well, without a pair.
 #[derive(Clone, Copy)]
 pub(crate) struct Pair<'a> {
     pub(crate) sides: &'a Sides,

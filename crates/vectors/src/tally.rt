@@ -55,38 +55,3 @@ impl fmt::Display for Damage {
         )
     }
 }
-
-#[derive(Drop)]
-pub(crate) struct Published {
-    pub(crate) vectors: usize,
-}
-
-impl fmt::Display for Published {
-    fn fmt<W: fmt::Write>(&self, f: &mut fmt::Formatter<W>) -> fmt::Result {
-        write!(
-            f,
-            "published vectors, in their own convention: {} sealed by both mixings",
-            self.vectors
-        )?;
-        write!(
-            f,
-            "; as whole bytes in our order {} give other bytes",
-            self.vectors
-        )
-    }
-}
-
-#[derive(Drop)]
-pub(crate) struct Stored {
-    pub(crate) vectors: usize,
-}
-
-impl fmt::Display for Stored {
-    fn fmt<W: fmt::Write>(&self, f: &mut fmt::Formatter<W>) -> fmt::Result {
-        write!(
-            f,
-            "stored vectors: {} sealed and opened by both",
-            self.vectors
-        )
-    }
-}

@@ -1,7 +1,7 @@
 -- Byte strings, the lowest byte first: what is a byte, the bytes of a number and the number of bytes, exclusive or.
 use Rattle.std.specs.Prelude.{ℕ, zero, suc, ◌+◌, ◌*◌, ◌/◌, ◌%◌, ◌<◌, List, [], ◌∷◌, bit_xor}
 
--- each element is a byte
+-- each element is a byte; by recursion and not by the index, as proofs take byte strings apart from the front
 abbrev pub Bytes : List ℕ → Type 0
 Bytes [] = Unit {0}
 Bytes (x ∷ xs) = (x < 256) × Bytes xs

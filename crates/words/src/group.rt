@@ -4,7 +4,7 @@ ghost use Rattle.words.specs.Diffusion.{diffused};
 
 use crate::word::Word;
 
-// Four words of one kind.
+// Four words of one kind. A struct, since an array is a list of any length in a definition.
 #[derive(Clone, Copy, Debug, PartialEq, Eq)]
 pub struct Group<W> {
     pub x0: W,

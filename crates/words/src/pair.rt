@@ -3,7 +3,7 @@ ghost use Rattle.std.specs.Prelude.{◌≡◌, bit_xor};
 ghost use Rattle.words.specs.Diffusion.{coupled};
 ghost use Rattle.words.specs.Linear.{narrow_third};
 
-// Two bytes.
+// Two bytes. A struct, since an array is a list of any length in a definition.
 #[derive(Clone, Copy, Debug, PartialEq, Eq)]
 pub struct Pair {
     pub x0: u8,

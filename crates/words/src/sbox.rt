@@ -9,7 +9,7 @@ pub fn substitute(byte: u8) -> u8
     ensures value { result ≡ sbox_of byte }
     ensures inverts { Inverts }
 {
-    SBOX[byte as usize]
+    SBOX[usize::from(byte)]
 }
 
 const SBOX: [u8; 256] = [

@@ -28,6 +28,9 @@ pub trait Word: Copy + BitXor<Output = Self> {
     ghost laws: { XorLaws Self.BitXor.can_bitxor Self.BitXor.bitxor_gives zero plus };
 }
 
+// The maps of four of the five differ in one number. Over a generic shift a body would bring with it what that operator
+// asks and gives, for each kind, and a macro can write no ghost member.
+
 // The word of wide D3.
 impl Word for u8 {
     ghost zero = { 0 };

@@ -5,7 +5,7 @@ ghost use Rattle.sheet.specs.Faults.{code_of, place_of};
 use super::{ColumnFault, Fault, Place};
 
 impl Fault {
-    // Its number in docs/REFUSALS.md.
+    // Its number in docs/REFUSALS.md. By a match: an enum whose variants carry values takes no discriminants.
     pub fn code(self) -> u8
         ensures { result ≡ code_of self }
     {
@@ -24,8 +24,7 @@ impl Fault {
         ensures { result ≡ place_of self }
     {
         match self {
-            Fault::Column(ColumnFault::Shape(place)) => Some(place),
-            Fault::Column(ColumnFault::Range(place)) => Some(place),
+            Fault::Column(ColumnFault::Shape(place) | ColumnFault::Range(place)) => Some(place),
             _ => None,
         }
     }

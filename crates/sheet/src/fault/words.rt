@@ -10,9 +10,7 @@ impl fmt::Display for Place {
     ghost output = { λ it. Some (place_words it) };
 
     fn fmt<W: fmt::Write>(&self, f: &mut fmt::Formatter<W>) -> fmt::Result {
-        let line = self.line;
-        let column = self.column;
-        write!(f, "line {line}, column {column}")
+        write!(f, "line {}, column {}", self.line, self.column)
     }
 }
 

@@ -1,9 +1,10 @@
-use Rattle.std.proofs.Common.{◌≡◌, ◌++◌, length, drop, Err, sym, ap, ◌∙◌, arith, length-take-le}
+use Rattle.std.proofs.Common.{◌≡◌, ◌≤◌, ◌++◌, length, drop, Err, sym, ap, ◌∙◌, arith, length-take-le}
+use Rattle.std.proofs.lemmas.Bool.Decides.{nat_tests}
 use Rattle.std.proofs.lemmas.Result.{err_from_is_err_and}
 use Rattle.mixers.specs.Blocks.{over}
 use Rattle.mode.specs.Opening.{opens, cipher_check, open_leaves, message_answer, message_text, answered, left_in}
 use Rattle.mode.proofs.Admits.{passes_on, admitted_by}
-use Rattle.mode.proofs.Opened.{fits, opens-sealed}
+use Rattle.mode.proofs.Opened.{opens-sealed}
 use Rattle.mode.proofs.opening.open.Goals as goal
 
 pub returns-in_err-check_lengths-clause-exactly : goal.returns-in_err-check_lengths-clause-exactly
@@ -35,7 +36,9 @@ returns g c =
     let e = c.open_guarded.ensures in
     let answer = e.answer ∙ ap (λ v. message_answer (opens f g.row.B v.key.now v.nonce.now v.ad.now C T)) setting ∙ ap (λ k. answered k m) ok in
     let text : end ≡ message_text n m = e.text ∙ ap (λ v. message_text n (opens f g.row.B v.key.now v.nonce.now v.ad.now C T)) setting in
-    let size : n ≡ length end = omega (arith, c.open_guarded.auto.text, length-take-le n xs (omega (arith, fits g.row.B n (length T) (length xs) c.in_ok-check_lengths.ensures))) in
+    let checked = c.in_ok-check_lengths.ensures in
+    let room : n ≤ length xs = grind (arith, nat_tests) in
+    let size : n ≡ length end = omega (arith, c.open_guarded.auto.text, length-take-le n xs room) in
     let buffer : end ++ drop n xs ≡ open_leaves f g.row.B s.key.now s.nonce.now s.ad.now C T xs = ap (λ k. end ++ drop k xs) size ∙ ap (λ t. over t xs) text ∙ ap (λ k. left_in k n m xs) ok in
     record {
       answer = answer;

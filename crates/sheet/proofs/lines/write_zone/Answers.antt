@@ -1,15 +1,9 @@
 use Rattle.std.proofs.Common.{refl, arith, rules}
 use Rattle.std.proofs.lemmas.Int.{ints}
 use Rattle.sheet.specs.Columns.{plain, signed, column_of}
-use Rattle.sheet.proofs.LineLaid.{line_laid, has_room, has_room_signed}
+use Rattle.sheet.proofs.LineLaid.{line_laid, has_room_signed}
 use Rattle.sheet.proofs.InRange.{widened}
 use Rattle.sheet.proofs.lines.write_zone.Goals as goal
-
-pub write_column-requires : goal.write_column-requires
-write_column-requires c = has_room c.args.i 4 _ (search rules) (omega arith) (omega arith) (omega arith)
-
-pub write_column-requires-2 : goal.write_column-requires-2
-write_column-requires-2 c = has_room c.from.result 6 _ (search rules) (omega arith) (omega arith) (omega arith)
 
 pub write_column-requires-3 : goal.write_column-requires-3
 write_column-requires-3 c =

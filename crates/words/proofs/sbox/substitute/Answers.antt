@@ -9,4 +9,4 @@ pub returns : goal.returns
 unfolding sbox_of
 returns c =
     let h : c.args.byte < 256 = search rules in
-    record { value = at_each _ sbox_of 256 refl c.args.byte h; inverts = inverts }
+    record { value = rw c.from.ensures (at_each _ sbox_of 256 refl c.args.byte h); inverts = inverts }

@@ -3,8 +3,8 @@ use native.Mathlib.Nat.{mod-add-div'}
 use Rattle.mixers.specs.View.{view}
 use Rattle.mixers.proofs.Blocks.{block_of_whole}
 use Rattle.mode.specs.Steps.{seal_step, all_state, all_prev}
-use Rattle.mode.proofs.Loops.{reads_more, reads_all}
-use Rattle.mode.proofs.Splits.{last_of, data_state_lem, data_prev_lem}
+use Rattle.mode.proofs.Loops.{stands, reads_more, reads_all}
+use Rattle.mode.proofs.Splits.{last_of, data_end}
 use Rattle.mode.proofs.chain.Chain.absorb_data.Goals as goal
 
 pub loop-block-preserved : goal.loop-block-preserved
@@ -34,7 +34,8 @@ returns-in-None g c =
     let read = reads_all step B c.requires _ _ _ _ _ _ c.loop-block.invariant.1 (omega (arith, c.in-None.ensures.steps.1.0, c.loop-block.invariant.0)) in
     let rest : c.remainder.result.now ≡ drop (q * B) A = c.remainder.ensures ∙ c.chunks_exact-blocks.ensures.remainder ∙ ap (λ k. drop k A) (omega (arith, mod-add-div' (length A) B)) in
     let last : c.pad_rest-last.result.bytes ≡ last_of B (drop (q * B) A) = c.pad_rest-last.ensures ∙ ap (last_of B) rest in
-    record {
-      state = e.state ∙ ap (λ x. (step x c.loop-block.self.prev.bytes c.pad_rest-last.result.bytes).state) read.0 ∙ ap (λ x. (step (all_state step B s p A) x c.pad_rest-last.result.bytes).state) read.1 ∙ ap (λ x. (step (all_state step B s p A) (all_prev step B s p A) x).state) last ∙ data_state_lem step B A c.requires some s p;
-      prev = e.prev ∙ last ∙ data_prev_lem step B A c.requires some s p;
-    }
+    let end =
+    ap (λ x. stands (step x.0 x.1 c.pad_rest-last.result.bytes)) read
+    ∙ ap (λ x. stands (step (all_state step B s p A) (all_prev step B s p A) x)) last
+    ∙ data_end step B A c.requires some s p in
+    record { state = e.state ∙ ap (λ x. x.0) end; prev = e.prev ∙ ap (λ x. x.1) end }

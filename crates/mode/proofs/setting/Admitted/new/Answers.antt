@@ -1,14 +1,8 @@
-use Rattle.std.proofs.Common.{◌∙◌, arith}
-use Rattle.mode.proofs.Widths.{some, few}
+use Rattle.std.proofs.Common.{arith}
 use Rattle.mode.proofs.setting.Admitted.new.Goals as goal
 
-pub invariant_of-result : goal.invariant_of-result
-invariant_of-result g c =
-    let w = (g.M.Mixer.laws c.args.mixer.now).width in
-    record {
-      some = some g.row.B w;
-      few = few g.row.B w;
-      key = c.if-setting-block.false ∙ c.block_len-block.ensures;
-      nonce = omega (arith, c.block_len-block.ensures);
-      ad = omega arith;
-    }
+pub invariant_of-result-clause-some : goal.invariant_of-result-clause-some
+invariant_of-result-clause-some g c = omega (arith, (g.M.Mixer.laws c.args.mixer.now).width)
+
+pub invariant_of-result-clause-few : goal.invariant_of-result-clause-few
+invariant_of-result-clause-few g c = omega (arith, (g.M.Mixer.laws c.args.mixer.now).width)

@@ -3,12 +3,12 @@ use Rattle.std.proofs.lemmas.Result.{err_from_is_err_and}
 use Rattle.mode.specs.Opening.{opens, opened_blocks, message_answer, message_text}
 use Rattle.mode.proofs.Admits.{admitted_by}
 use Rattle.mode.proofs.Opened.{judged-opens, answer_err, answer_ok, front, zeros_behind}
-use Rattle.mode.proofs.opening.open_guarded.Goals as goal
+use Rattle.mode.proofs.setting.Admitted.open_guarded.Goals as goal
 
 pub returns-in_err-len : goal.returns-in_err-len
 returns-in_err-len g c =
     let f = g.M.Mixer.mixing c.args.mixer.now in
-    let s = c.args.under.now.setting in
+    let s = c.args.self.now.setting in
     let C = c.args.cipher.now in
     let o = opens f g.row.B s.key.now s.nonce.now s.ad.now C c.args.tag.now in
     let e = c.write_opened-expected.ensures in
@@ -24,7 +24,7 @@ returns-in_err-len g c =
 pub returns : goal.returns
 returns g c =
     let f = g.M.Mixer.mixing c.args.mixer.now in
-    let u = c.args.under.now in
+    let u = c.args.self.now in
     let s = u.setting in
     let law = g.M.Mixer.laws c.args.mixer.now in
     let admitted = admitted_by g.row.B u s refl in

@@ -3,7 +3,7 @@ use Rattle.words.specs.Bytes.{low_bytes}
 use Rattle.words.proofs.Bytes.{low_bytes-add}
 use Rattle.words.proofs.Conversions.{to_low}
 use Rattle.artemia.proofs.Quarters.{masked}
-use Rattle.mixers.proofs.words_of.U128Stored.write.Goals as goal
+use Rattle.mixers.proofs.words_of.U128Stored32.write.Goals as goal
 
 pub returns : goal.returns
 returns c =

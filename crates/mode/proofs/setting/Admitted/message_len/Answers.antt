@@ -6,8 +6,8 @@ use Rattle.mode.specs.Padding.{trailer}
 use Rattle.mode.specs.Sealing.{cipher_length}
 use Rattle.mode.specs.declared.setting.Admitted.{Admitted}
 use Rattle.mode.proofs.Unpads.{refused, accepted}
-use Rattle.mode.proofs.padding.message_len.Goals as goal
-use Rattle.mode.proofs.padding.message_len.Goals.{else-text-cipher_len-via-then-text-cipher_len+else-same, else-text-cipher_len-via-else-text-cipher_len}
+use Rattle.mode.proofs.setting.Admitted.message_len.Goals as goal
+use Rattle.mode.proofs.setting.Admitted.message_len.Goals.{else-text-cipher_len-via-then-text-cipher_len+else-same, else-text-cipher_len-via-else-text-cipher_len}
 
 -- the length of the message that is tried
 tried : (xs ys : List ℕ) (r : ℕ) → ys ≡ take (r - 13) xs → r ≤ length xs → length ys ≡ r - 13
@@ -21,27 +21,22 @@ tried_trailer B u v t ys k e s l =
 
 pub returns-then-end-lt-TRAILER-clause-answer : goal.returns-then-end-lt-TRAILER-clause-answer
 returns-then-end-lt-TRAILER-clause-answer g c =
-    let u = c.args.under.now in
-    let nonce : length u.setting.nonce.now ≤ 32 = omega (arith, u.nonce, u.few) in
-    refused g.row.B (length u.setting.nonce.now) (length u.setting.ad.now) u.some nonce u.ad c.args.text.now c.reach-end.result c.reach-end.ensures.zeros c.reach-end.ensures.last (λ E. omega (arith, E.low))
+    refused g.row.B c.args.self.now c.args.text.now c.reach-end.result c.reach-end.ensures.zeros c.reach-end.ensures.last (λ E. omega (arith, E.low))
 
 pub returns-in_default-clause-answer : goal.returns-in_default-clause-answer
 returns-in_default-clause-answer g c =
-    let u = c.args.under.now in
-    let nonce : length u.setting.nonce.now ≤ 32 = omega (arith, u.nonce, u.few) in
     let r = c.reach-end.result in
-    refused g.row.B (length u.setting.nonce.now) (length u.setting.ad.now) u.some nonce u.ad c.args.text.now r c.reach-end.ensures.zeros c.reach-end.ensures.last (λ E.
+    refused g.row.B c.args.self.now c.args.text.now r c.reach-end.ensures.zeros c.reach-end.ensures.last (λ E.
     omega (arith, E.high, c.in_default.ensures.0, length-take-le (r - 13) c.args.text.now (omega arith)))
 
 pub returns-then-same-clause-answer : goal.returns-then-same-clause-answer
 returns-then-same-clause-answer g c =
-    let u = c.args.under.now in
-    let nonce : length u.setting.nonce.now ≤ 32 = omega (arith, u.nonce, u.few) in
+    let u = c.args.self.now in
     let r = c.reach-end.result in
     let part = take (r - (r - 13)) (drop (r - 13) c.args.text.now) in
     let m = c.in-Ok.message in
     let size = tried c.args.text.now m.bytes.now r c.in-Ok.ensures.1 c.reach-end.ensures.within in
-    accepted g.row.B (length u.setting.nonce.now) (length u.setting.ad.now) u.some nonce u.ad c.args.text.now r c.reach-end.ensures.zeros c.reach-end.ensures.within (record {
+    accepted g.row.B u c.args.text.now r c.reach-end.ensures.zeros c.reach-end.ensures.within (record {
       low = omega arith;
       high = omega (arith, m.short);
       size = c.if-text-cipher_len.true ∙ c.cipher_len.ensures ∙ ap (cipher_length g.row.B) size;
@@ -50,13 +45,12 @@ returns-then-same-clause-answer g c =
 
 pub returns-else-text-cipher_len-clause-answer : goal.returns-else-text-cipher_len-clause-answer
 returns-else-text-cipher_len-clause-answer g c =
-    let u = c.args.under.now in
-    let nonce : length u.setting.nonce.now ≤ 32 = omega (arith, u.nonce, u.few) in
+    let u = c.args.self.now in
     let r = c.reach-end.result in
     let part = take (r - (r - 13)) (drop (r - 13) c.args.text.now) in
     let m = c.in-Ok.message in
     let size = tried c.args.text.now m.bytes.now r c.in-Ok.ensures.1 c.reach-end.ensures.within in
-    refused g.row.B (length u.setting.nonce.now) (length u.setting.ad.now) u.some nonce u.ad c.args.text.now r c.reach-end.ensures.zeros c.reach-end.ensures.last (λ E.
+    refused g.row.B u c.args.text.now r c.reach-end.ensures.zeros c.reach-end.ensures.last (λ E.
     elim c.else-text-cipher_len.branch [
       | else-text-cipher_len-via-then-text-cipher_len+else-same w ↦
           let t = tried_trailer g.row.B m.under u w.trailer.result m.bytes.now (r - 13) w.trailer.ensures c.in-Ok.ensures.0 size in

@@ -2,13 +2,13 @@ use Rattle.std.proofs.Common.{◌≡◌, ◌++◌, length, ap, ◌∙◌, arith}
 use Rattle.mixers.specs.Blocks.{over}
 use Rattle.mode.specs.Sealing.{cipher_text, cipher_tag}
 use Rattle.mode.proofs.Sealed.{written_after}
-use Rattle.mode.proofs.sealing.write_sealed.Goals as goal
+use Rattle.mode.proofs.padding.Message.write_sealed.Goals as goal
 
 pub returns : goal.returns
 unfolding cipher_text cipher_tag
 returns g c =
     let f = g.M.Mixer.mixing c.args.mixer.now in
-    let m = c.args.message.now in
+    let m = c.args.self.now in
     let s = m.under.setting in
     let xs = c.args.out.now in
     let e = c.begin-chain.ensures in

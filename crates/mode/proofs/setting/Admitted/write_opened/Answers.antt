@@ -1,6 +1,6 @@
 use Rattle.std.proofs.Common.{◌∙◌}
 use Rattle.mode.specs.Opening.{opened_blocks, opened_tag}
-use Rattle.mode.proofs.opening.write_opened.Goals as goal
+use Rattle.mode.proofs.setting.Admitted.write_opened.Goals as goal
 
 pub returns : goal.returns
 unfolding opened_blocks opened_tag
