@@ -14,7 +14,6 @@ mod refusal;
 mod setting;
 mod width;
 
-pub use bytes::{cut, fill, sum};
 pub use kind::{Kind, UnknownKind};
 pub use reference::Reference;
 pub use refusal::{Failure, Refusal};

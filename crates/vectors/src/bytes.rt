@@ -1,6 +1,22 @@
-// Lists of bytes: parts, and bytes to run the cases on.
-use reference::cut;
+// Lists of bytes: parts, sums, and bytes to run the cases on. The reference has parts and sums of its own, so that an
+// error in one of them is not in both.
 use std::alloc::{AllocError, Global};
+
+// The first `n` bytes, or all where there are fewer, and the rest.
+pub(crate) fn cut(bytes: &[u8], n: usize) -> (&[u8], &[u8]) {
+    bytes.split_at(n.min(bytes.len()))
+}
+
+// left ⊕ right, as long as the shorter of them
+pub(crate) fn sum(heap: Global, left: &[u8], right: &[u8]) -> Result<Vec<u8>, AllocError> {
+    left.iter().zip(right).map(|(a, b)| *a ^ *b).collect(heap)
+}
+
+// Adds zeros at the end, up to the next multiple of `unit`.
+pub(crate) fn fill(bytes: &mut Vec<u8>, unit: usize) -> Result<(), AllocError> {
+    let len = bytes.len();
+    bytes.resize(len.checked_next_multiple_of(unit).unwrap_or(len), 0)
+}
 
 // The bytes without the last `n`, and these.
 pub(crate) fn cut_last(bytes: &[u8], n: usize) -> (&[u8], &[u8]) {

@@ -1,10 +1,10 @@
 // Damaged copies: both implementations give the same verdict on each, and none but those of the exchange open.
-use crate::bytes::cut_last;
+use crate::bytes::{cut, cut_last};
 use crate::case::Case;
 use crate::inputs::{Inputs, Shape};
 use crate::sides::Pair;
 use crate::tally::Damage;
-use reference::{Kind, Setting, cut};
+use reference::{Kind, Setting};
 use std::alloc::{AllocError, Global};
 
 // The copies of one mixer's sealings, and what became of them so far.

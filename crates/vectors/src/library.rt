@@ -2,11 +2,11 @@
 ghost use Rattle.std.specs.Prelude.{◌≤◌};
 
 use crate::answer::Answer;
-use crate::bytes::joined;
+use crate::bytes::{cut, joined};
 use crate::sides::Side;
 use mixers::{Block, Exchange, Mixer, Narrow, State, Wide};
 use mode::{Fault, open, seal};
-use reference::{Kind, Setting, cut};
+use reference::{Kind, Setting};
 use std::alloc::{AllocError, Global};
 
 pub(crate) const KINDS: [Kind; 3] = [Kind::Narrow, Kind::Wide, Kind::Exchange];

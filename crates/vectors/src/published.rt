@@ -1,12 +1,12 @@
 // The vectors that the designers published, in their convention: strings of bits, most significant first; key and nonce
 // are numbers; behind the message stand the lengths of nonce, data and message, and a bit 1. docs/VECTORS.md has more.
 use crate::bits::{bits_of, extended, packed, push_number};
-use crate::bytes::{joined, reversed};
+use crate::bytes::{cut, fill, joined, reversed, sum};
 use crate::case::Case;
 use crate::fields::{Fields, each_line};
 use crate::inputs::Inputs;
 use crate::sides::{Side, Sides};
-use reference::{Kind, Setting, cut, fill, sum};
+use reference::{Kind, Setting};
 use std::alloc::{AllocError, Global};
 
 // The inputs as bits, and the bytes that are published.
