@@ -2,7 +2,7 @@
 ghost use Rattle.std.specs.Prelude.{◌≡◌, ℕ, List, refl};
 ghost use Rattle.words.specs.Bytes.{low_bytes, xor_bytes};
 ghost use Rattle.words.specs.Linear.{narrow_first, wide_first};
-ghost use Rattle.artemia.specs.Artemia.{Kind, narrow, wide, four};
+ghost use Rattle.artemia.specs.Artemia.{Kind, narrow, wide, four, parts, substituted};
 ghost use Rattle.artemia.specs.Lanes.{laid, finished, HeldLaws, numbers_held, Constants, narrow_constants, wide_constants};
 
 use crate::short::Short;
@@ -35,12 +35,18 @@ pub trait Lane: Word {
     fn join(quarters: Group<Self::Short>) -> Self
         ensures { held result ≡ laid Self.Short.held quarters };
 
+    // The quarters, with S at every byte.
+    fn substitute_quarters(self) -> Group<Self::Short>
+        ensures { laid Self.Short.held result ≡ substituted (held self) }
+    {
+        self.cut().map(Short::substitute)
+    }
+
     // What a round does to a word after D1: S, D2, S, D3, S.
     fn finish(self) -> Self
         ensures { held result ≡ finished kind (held self) }
     {
-        let quarters = Self::Short::spread(self.cut().map(Short::substitute));
-        Self::join(quarters.map(|y| y.substitute().diffuse_bytes().substitute()))
+        Self::join(diffuse_quarters(Self::Short::spread(self.substitute_quarters())))
     }
 
     // what each width owes
@@ -49,6 +55,13 @@ pub trait Lane: Word {
     ghost one_kind: { Self.Short.kind ≡ kind };
 
     ghost constants: { Constants kind };
+}
+
+// S, D3 and S at each of four words of D2.
+fn diffuse_quarters<S: Short>(x: Group<S>) -> Group<S>
+    ensures { laid S.held result ≡ substituted (parts S.kind.second_bytes 4 S.kind.third (substituted (laid S.held x))) }
+{
+    x.map(|y| y.substitute().diffuse_bytes().substitute())
 }
 
 // The word of narrow D1.

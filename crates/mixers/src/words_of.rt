@@ -57,8 +57,7 @@ pub(crate) fn permute_state<const B: usize, W: Stored<B>>(state: &mut State<B>)
     ensures { view state.new ≡ on_halves B (permuted W.kind) (view state.old) }
 {
     let y = permute(load::<B, W>(state));
-    write_pair(&mut state.upper.bytes, y.x2, y.x3);
-    write_pair(&mut state.lower.bytes, y.x0, y.x1);
+    store(state, y);
 }
 
 // The four words of a state, the lowest first.
@@ -69,6 +68,15 @@ fn load<const B: usize, W: Stored<B>>(state: &State<B>) -> Group<W>
     let (x0, x1) = read_pair(&state.lower.bytes);
     let (x2, x3) = read_pair(&state.upper.bytes);
     Group { x0, x1, x2, x3 }
+}
+
+// Writes the four words of a state, the lowest first.
+fn store<const B: usize, W: Stored<B>>(state: &mut State<B>, y: Group<W>)
+    ensures upper { state.new.upper.bytes ≡ W.held y.x2 ++ W.held y.x3 }
+    ensures lower { state.new.lower.bytes ≡ W.held y.x0 ++ W.held y.x1 }
+{
+    write_pair(&mut state.upper.bytes, y.x2, y.x3);
+    write_pair(&mut state.lower.bytes, y.x0, y.x1);
 }
 
 // The two words of a block, the lower first.

@@ -85,7 +85,7 @@ module _ (f : Halves → Halves) (B mark : ℕ) (law : Lawful B mark f) (K N A :
         tag = sym (ap (λ r. tag_at f K r.state r.prev) sealed ∙ j.0);
       }
 
-  -- how long C and T are
+  -- how long C, T and the blocks under C are
   sealing_keeps : (M : List ℕ) → Keeps B (seal_step f) (length (message_blocks B N A M) / B) (data_state f B K N A) (data_prev f B K N A) (message_blocks B N A M)
   sealing_keeps M = seal_keeps B f law.sized (length (message_blocks B N A M) / B) (data_state f B K N A) (data_prev f B K N A) (message_blocks B N A M) state_sized prev_sized (div-mul-le_self (length (message_blocks B N A M)) B)
 
@@ -98,6 +98,10 @@ module _ (f : Halves → Halves) (B mark : ℕ) (law : Lawful B mark f) (K N A :
   length-tag M =
       let kept = sealing_keeps M in
       length-xor B _ K (length-xor B _ _ (law.sized _ kept.sized).1 kept.prev_is) given.key
+
+  pub length-opened : (C : List ℕ) → length (opened_blocks f B K N A C) ≡ length C
+  unfolding opened_blocks
+  length-opened C = (open_keeps B f law.sized (length C / B) (data_state f B K N A) (data_prev f B K N A) C state_sized prev_sized (div-mul-le_self (length C) B)).size
 
   -- what is sealed from M opens to M, and only to M
   gives_back : (C T M : List ℕ) → SealedAs f B K N A C T M → opens f B K N A C T ≡ Some M

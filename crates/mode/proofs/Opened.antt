@@ -6,7 +6,8 @@ use Rattle.std.proofs.lemmas.List.{take_at, drop_all, append-nil}
 use Rattle.std.proofs.lemmas.Bool.Decides.{nat_tests}
 use Rattle.mixers.specs.Halves.{Halves, Lawful}
 use Rattle.mode.specs.Laws.{Admitted, SealedAs, OpensSealed}
-use Rattle.mode.specs.Opening.{opened_blocks, opened_tag, judged, opens, open_checked, message_answer, answered, left_in, open_answer, open_leaves}
+use Rattle.mode.specs.Limits.{data_most}
+use Rattle.mode.specs.Opening.{opened_blocks, opened_tag, judged, opens, open_check, open_checked, message_answer, answered, left_in, open_answer, open_leaves}
 use Rattle.mode.specs.Padding.{pad_message}
 use Rattle.mode.specs.declared.fault.Fault.{Fault}
 use Rattle.mode.proofs.Faith.{within, sealed_opens, only_sealed}
@@ -37,14 +38,22 @@ module _ (f : Halves → Halves) (B mark : ℕ) (law : Lawful B mark f) (K N A :
   front = message_is B (8 * length N) (8 * length A) (within f B mark law K N A admitted) M (opened_blocks f B K N A C) padded
 
 -- what it means that nothing is refused from lengths alone
-record Passed (B : ℕ) (K N A C : List ℕ) : Type 0 where
-  pub admitted : Admitted B K N A
-  pub whole : length C % B ≡ 0
+pub record Passed (B k n a c t room : ℕ) : Type 0 where
+  pub key : k ≡ B
+  pub nonce : n ≤ B
+  pub «data» : a ≤ data_most
+  pub tag : t ≡ B
+  pub whole : c % B ≡ 0
+  pub fits : c ≤ room
 
-passed : (B : ℕ) (K N A C T xs : List ℕ) (u : Unit {0}) → Ok u ≡ open_checked B K N A C T xs → Passed B K N A C
-passed B K N A C T xs u e = record {
-  admitted = record { key = grind (arith, nat_tests); nonce = grind (arith, nat_tests); «data» = grind (arith, nat_tests) };
+pub passed : (B k n a c t room : ℕ) (u : Unit {0}) → Ok u ≡ open_check B k n a c t room → Passed B k n a c t room
+passed B k n a c t room u e = record {
+  key = grind (arith, nat_tests);
+  nonce = grind (arith, nat_tests);
+  «data» = grind (arith, nat_tests);
+  tag = grind (arith, nat_tests);
   whole = grind (arith, nat_tests);
+  fits = grind (arith, nat_tests);
 }
 
 -- what opening promises follows from what it answers and leaves
@@ -54,11 +63,12 @@ module _ (f : Halves → Halves) (B mark : ℕ) (law : Lawful B mark f) (K N A C
   only_sealing (Err e) m r text ek em er et = rw er tt
   only_sealing (Ok u) None r text ek em er et = rw er tt
   only_sealing (Ok u) (Some M) r text ek em er et =
-      let p = passed B K N A C T xs u ek in
+      let p = passed B (length K) (length N) (length A) (length C) (length T) (length xs) u ek in
+      let admitted : Admitted B K N A = record { key = p.key; nonce = p.nonce; «data» = p.«data» } in
       let zs = replicate (length C - length M) 0 in
       let here : take (length M) text ≡ M = ap (take (length M)) (et ∙ append_assoc M zs (drop (length (M ++ zs)) xs)) ∙ take_at M (zs ++ drop (length (M ++ zs)) xs) (length M) refl in
       let blocks : length C / B * B ≡ length C = omega (arith, mod-add-div' (length C) B, p.whole) in
-      rw er (subst (SealedAs f B K N A C T) (sym here) (only_sealed f B mark law K N A p.admitted C T M blocks (sym em)))
+      rw er (subst (SealedAs f B K N A C T) (sym here) (only_sealed f B mark law K N A admitted C T M blocks (sym em)))
 
   pub opens-sealed : (r : Result ℕ Fault) (text : List ℕ) → r ≡ open_answer f B K N A C T xs → text ≡ open_leaves f B K N A C T xs → OpensSealed f B K N A C T xs r text
   opens-sealed r text er et = record {

@@ -187,17 +187,12 @@ pub record Ended (B ν α : ℕ) (p : List ℕ) (r : ℕ) : Type 0 where
   pub size : length p ≡ cipher_length B (r - 13)
   pub last : trailer B ν α (8 * (r - 13)) ≡ take (r - (r - 13)) (drop (r - 13) p)
 
+-- the lengths of a setting that is admitted
+pub bounds_under : (B : ℕ) (u : Admitted B) → Bounds B (8 * length u.setting.nonce.now) (8 * length u.setting.ad.now)
+bounds_under B u = bounds B (length u.setting.nonce.now) (length u.setting.ad.now) u.some u.few u.nonce u.ad
+
 -- p is a padding just where it ends so
-module _ (B : ℕ) (under : Admitted B) (p : List ℕ) (r : ℕ) (zeros : drop r p ≡ replicate (length p - r) 0) where
-  abbrev ν : ℕ
-  ν = 8 * length under.setting.nonce.now
-
-  abbrev α : ℕ
-  α = 8 * length under.setting.ad.now
-
-  within : Bounds B ν α
-  within = bounds B (length under.setting.nonce.now) (length under.setting.ad.now) under.some under.few under.nonce under.ad
-
+module _ (B ν α : ℕ) (within : Bounds B ν α) (p : List ℕ) (r : ℕ) (zeros : drop r p ≡ replicate (length p - r) 0) where
   pub refused : (0 < r → get_or p (r - 1) 0 ≡ 0 → ⊥) → (Ended B ν α p r → ⊥) → Err NotAuthentic ≡ message_answer (unpadded B ν α p)
   refused top not_so = none_of B ν α within p (unpadded B ν α p) refl (λ M l e.
       let at = reach_is B ν α within M p r l e (record { zeros = zeros; last = top }) in
@@ -206,7 +201,7 @@ module _ (B : ℕ) (under : Admitted B) (p : List ℕ) (r : ℕ) (zeros : drop r
       not_so (record {
         low = omega arith;
         high = omega arith;
-        size = ap length (sym e) ∙ length-pad_message B ν α M under.some ∙ ap (cipher_length B) k;
+        size = ap length (sym e) ∙ length-pad_message B ν α M within.some ∙ ap (cipher_length B) k;
         last = sym (ap (λ x. trailer B ν α (8 * x)) k) ∙ sym (trailer_is B ν α within M p e) ∙ ap (λ x. take 13 (drop x p)) k ∙ ap (λ x. take x (drop (r - 13) p)) all;
       }))
 

@@ -3,7 +3,7 @@ ghost use Rattle.std.specs.Prelude.{◌≡◌, ◌*◌, ◌≤◌, length, IfOk}
 ghost use Rattle.mode.specs.Laws.{OpensSealed};
 ghost use Rattle.mode.specs.Opening.{opened_blocks, opened_tag, judged, opens, message_answer, message_text, cipher_check, open_answer, open_leaves};
 
-use crate::bytes::same;
+use crate::bytes::{copy, same};
 use crate::chain::Chain;
 use crate::fault::Fault;
 use crate::guard::WipeGuard;
@@ -34,7 +34,7 @@ impl<const B: usize> Admitted<'_, B> {
         ensures text { let s = self.now.setting in text.new ≡ opened_blocks (M.mixing mixer.now) B s.key.now s.nonce.now s.ad.now cipher.now }
     {
         let mut chain = Chain::begin(mixer, self);
-        text.copy_from_slice(cipher);
+        copy(text, cipher);
         chain.turn_all::<Opening, M>(mixer, text);
         chain.tag(mixer, self)
     }

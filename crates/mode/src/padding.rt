@@ -5,7 +5,7 @@ ghost use Rattle.mode.specs.Opening.{message_answer};
 ghost use Rattle.mode.specs.Padding.{trailer_number as number_of, trailer as trailer_of, pad_message, unpadded};
 ghost use Rattle.mode.specs.Sealing.{cipher_length};
 
-use crate::bytes::same;
+use crate::bytes::{copy, same};
 use crate::fault::Fault;
 use crate::limits::{MESSAGE_MOST, TRAILER};
 use crate::setting::Admitted;
@@ -64,7 +64,7 @@ impl<'a, const B: usize> Message<'a, B> {
     {
         let (message, rest) = out.split_at_mut(self.bytes.len());
         let (trailer, zeros) = rest.split_at_mut(TRAILER);
-        message.copy_from_slice(self.bytes);
+        copy(message, self.bytes);
         trailer.copy_from_slice(&self.trailer());
         zeros.fill(0);
     }

@@ -1,5 +1,5 @@
 // Sealing.
-ghost use Rattle.std.specs.Prelude.{◌≡◌, ◌+◌, ◌≤◌, ◌++◌, length, IfOk};
+ghost use Rattle.std.specs.Prelude.{◌≡◌, ◌+◌, ◌<◌, ◌≤◌, ◌++◌, length, IfOk, MatchResult};
 ghost use Rattle.mixers.specs.Blocks.{over};
 ghost use Rattle.mode.specs.Laws.{OpensAgain};
 ghost use Rattle.mode.specs.Sealing.{cipher_text, cipher_tag, cipher_length, seal_answer, seal_leaves};
@@ -12,6 +12,17 @@ use crate::way::Sealing;
 use mixers::Mixer;
 
 impl<const B: usize> Message<'_, B> {
+    // The lengths of C and of C with T, or the refusal where a buffer of `room` bytes does not hold both.
+    fn lengths(&self, room: usize) -> Result<(usize, usize), Fault>
+        ensures { let n = cipher_length B (length self.now.bytes.now) in MatchResult result (λ lengths. (lengths ≡ (n, n + B)) × (n + B ≤ room)) (λ e. (room < n + B) × (e ≡ Fault.BufferTooShort)) }
+    {
+        let cipher = self.cipher_len();
+        if room < cipher + B {
+            return Err(Fault::BufferTooShort);
+        }
+        Ok((cipher, cipher + B))
+    }
+
     // Writes C and T at the front of `out`.
     fn write_sealed<M: Mixer<B>>(&self, mixer: &M, out: &mut [u8])
         requires { cipher_length B (length self.now.bytes.now) + B ≤ length out.old }
@@ -39,10 +50,7 @@ pub fn seal<const B: usize, M: Mixer<B>>(
     ensures again { let s = setting.entry in IfOk result (OpensAgain (M.mixing mixer.now) B s.key.now s.nonce.now s.ad.now message.now) }
 {
     let message = Message::new(Admitted::new(mixer, setting)?, message)?;
-    let cipher = message.cipher_len();
-    if out.len() < cipher + B {
-        return Err(Fault::BufferTooShort);
-    }
+    let lengths = message.lengths(out.len())?;
     message.write_sealed(mixer, out);
-    Ok((cipher, cipher + B))
+    Ok(lengths)
 }

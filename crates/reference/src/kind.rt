@@ -1,5 +1,6 @@
 // The three mixers by name, with what tells them apart.
-ghost use Rattle.std.specs.Prelude.{◌≤◌};
+ghost use Rattle.std.specs.Prelude.{◌≡◌, ◌≤◌, Some};
+ghost use Rattle.reference.specs.Names.{name_of, Reads, unknown_words};
 
 use crate::layer::{Layer, Rule, Spread};
 use crate::width::Width;
@@ -19,6 +20,8 @@ pub enum Kind {
 pub struct UnknownKind;
 
 impl fmt::Display for UnknownKind {
+    ghost output = { λ _. Some unknown_words };
+
     fn fmt<W: fmt::Write>(&self, f: &mut fmt::Formatter<W>) -> fmt::Result {
         f.write_str("a line names no mixer")
     }
@@ -112,6 +115,16 @@ impl Kind {
         }
     }
 
+    pub fn name(self) -> &'static str
+        ensures { result.now ≡ name_of self }
+    {
+        match self {
+            Kind::Narrow => "narrow",
+            Kind::Wide => "wide",
+            Kind::Exchange => "exchange",
+        }
+    }
+
     // The width of the number of a padding that tells the nonce's length.
     pub(crate) fn nonce_bits(self) -> u32
         ensures { result ≤ 9 }
@@ -133,17 +146,17 @@ impl Kind {
 }
 
 impl fmt::Display for Kind {
+    ghost output = { λ kind. Some (name_of kind) };
+
     fn fmt<W: fmt::Write>(&self, f: &mut fmt::Formatter<W>) -> fmt::Result {
-        f.write_str(match self {
-            Kind::Narrow => "narrow",
-            Kind::Wide => "wide",
-            Kind::Exchange => "exchange",
-        })
+        f.write_str(self.name())
     }
 }
 
 impl FromStr for Kind {
     type Err = UnknownKind;
+
+    ghost from_str_gives = { Reads };
 
     fn from_str(name: &str) -> Result<Kind, UnknownKind> {
         match name {

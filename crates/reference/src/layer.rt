@@ -85,12 +85,16 @@ impl Layer {
         Ok(())
     }
 
-    // Writes the words of one group after it was spread.
+    // Writes the words of one group after it was spread. Of the last group, which may be cut short, as many bytes are kept
+    // as it has.
     fn append(self, group: &[u8], out: &mut Vec<u8>) -> Result<(), AllocError> {
+        let end = out.len().saturating_add(group.len());
         match self.rule {
-            Rule::TwoWords => self.write(&self.two(self.words(group)), out),
-            Rule::FourWords => self.write(&self.four(self.words(group)), out),
+            Rule::TwoWords => self.write(&self.two(self.words(group)), out)?,
+            Rule::FourWords => self.write(&self.four(self.words(group)), out)?,
         }
+        out.truncate(end);
+        Ok(())
     }
 
     // The state after this layer.

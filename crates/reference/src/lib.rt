@@ -1,6 +1,6 @@
 // A second implementation of the mixers and the mode, plain and slow, on lists of bytes. It shares no code with the
-// proved library, which is compared with it. Of this crate safety is proved, and bounds of some lengths, not what it
-// computes.
+// proved library, which is compared with it. Of this crate safety is proved, bounds of some lengths, names and codes, not what
+// it computes.
 #![tactic(auto)]
 
 mod bytes;
@@ -12,6 +12,8 @@ mod padding;
 mod reference;
 mod refusal;
 mod setting;
+#[cfg(test)]
+mod tests;
 mod width;
 
 pub use kind::{Kind, UnknownKind};

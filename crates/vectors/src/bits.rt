@@ -18,7 +18,7 @@ pub(crate) fn bits_of(heap: Global, field: &str) -> anyhow::Result<Vec<u8>> {
 }
 
 fn digits_bits(heap: Global, digits: &str) -> anyhow::Result<Vec<u8>> {
-    small_digits(digits)?;
+    small_digits(digits.as_bytes())?;
     let mut all = Vec::new(heap);
     for digit in digits.chars() {
         let value = digit.to_digit(16).context("a field has what is no digit")?;

@@ -1,23 +1,29 @@
 // Lines of a file and their fields.
+use crate::bytes::cut;
 use crate::inputs::Inputs;
 use anyhow::ensure;
 use reference::Kind;
 use std::alloc::Global;
 use std::str::SplitWhitespace;
 
-// The bytes that two digits each stand for; `-` stands for none.
+// The bytes that two digits each stand for; `-` stands for none. Whole pairs are judged before one digit that is left over.
 pub(crate) fn unhex(heap: Global, text: &str) -> anyhow::Result<Vec<u8>> {
     if text == "-" {
         return Ok(Vec::new(heap));
     }
-    small_digits(text)?;
-    Ok(hex::decode(heap, text)?)
+    let digits = text.as_bytes();
+    let (pairs, odd) = cut(digits, digits.len() / 2 * 2);
+    small_digits(pairs)?;
+    ensure!(odd.is_empty(), "a field has an odd number of digits");
+    Ok(hex::decode(heap, pairs)?)
 }
 
 // The files have no capital digits.
-pub(crate) fn small_digits(text: &str) -> anyhow::Result<()> {
+pub(crate) fn small_digits(digits: &[u8]) -> anyhow::Result<()> {
     ensure!(
-        !text.bytes().any(|byte| byte.is_ascii_uppercase()),
+        digits
+            .iter()
+            .all(|digit| matches!(*digit, b'0'..=b'9' | b'a'..=b'f')),
         "a field has what is no digit"
     );
     Ok(())

@@ -3,10 +3,9 @@ ghost use Rattle.std.specs.Prelude.{◌≡◌, bit_xor};
 ghost use Rattle.words.specs.Laws.{XorLaws, bits_laws};
 ghost use Rattle.words.specs.Linear.{wide_third, narrow_second, wide_second, narrow_first, wide_first};
 
-use std::ops::BitXor;
-
-// A kind of word brings its exclusive or and its linear map L.
-pub trait Word: Copy + BitXor<Output = Self> {
+// A kind of word brings its exclusive or and its linear map L. Each kind has a body for its exclusive or: one in the trait
+// would ask of every kind that it has the operator `^`.
+pub trait Word: Copy {
     ghost zero: { Self };
 
     // exclusive or
@@ -15,17 +14,14 @@ pub trait Word: Copy + BitXor<Output = Self> {
     // L
     ghost linear_map: { Self → Self };
 
-    fn linear(self) -> Self
-        ensures { result ≡ linear_map self };
+    // what each kind owes
+    ghost laws: { XorLaws zero plus };
 
     fn xor(self, other: Self) -> Self
-        ensures { result ≡ plus self other }
-    {
-        self ^ other
-    }
+        ensures { result ≡ plus self other };
 
-    // what each kind owes
-    ghost laws: { XorLaws Self.BitXor.can_bitxor Self.BitXor.bitxor_gives zero plus };
+    fn linear(self) -> Self
+        ensures { result ≡ linear_map self };
 }
 
 // The maps of four of the five differ in one number. Over a generic shift a body would bring with it what that operator
@@ -40,6 +36,10 @@ impl Word for u8 {
     ghost linear_map = { wide_third };
 
     ghost laws = { bits_laws };
+
+    fn xor(self, other: u8) -> u8 {
+        self ^ other
+    }
 
     fn linear(self) -> u8 {
         (self ^ (self << 1)).rotate_left(1)
@@ -56,6 +56,10 @@ impl Word for u16 {
 
     ghost laws = { bits_laws };
 
+    fn xor(self, other: u16) -> u16 {
+        self ^ other
+    }
+
     fn linear(self) -> u16 {
         (self << 1) ^ (self >> 1)
     }
@@ -70,6 +74,10 @@ impl Word for u32 {
     ghost linear_map = { wide_second };
 
     ghost laws = { bits_laws };
+
+    fn xor(self, other: u32) -> u32 {
+        self ^ other
+    }
 
     fn linear(self) -> u32 {
         (self << 1) ^ (self >> 3)
@@ -86,6 +94,10 @@ impl Word for u64 {
 
     ghost laws = { bits_laws };
 
+    fn xor(self, other: u64) -> u64 {
+        self ^ other
+    }
+
     fn linear(self) -> u64 {
         (self << 1) ^ (self >> 15)
     }
@@ -100,6 +112,10 @@ impl Word for u128 {
     ghost linear_map = { wide_first };
 
     ghost laws = { bits_laws };
+
+    fn xor(self, other: u128) -> u128 {
+        self ^ other
+    }
 
     fn linear(self) -> u128 {
         (self << 1) ^ (self >> 3)

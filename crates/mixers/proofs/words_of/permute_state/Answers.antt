@@ -9,6 +9,6 @@ returns g c =
     let s = c.args.state.now in
     let t = permuted k (s.lower.bytes ++ s.upper.bytes) in
     let cut = in_halves g.met.W.Lane.laws c.permute-y.result t (c.permute-y.ensures ∙ ap (permuted k) c.load.ensures) in
-    let upper = c.write_pair.ensures ∙ cut.0 ∙ ap (λ n. drop n t) g.met.W.Stored.two in
-    let lower = c.write_pair-2.ensures ∙ cut.1 ∙ ap (λ n. take n t) g.met.W.Stored.two in
+    let upper = c.store.ensures.upper ∙ cut.0 ∙ ap (λ n. drop n t) g.met.W.Stored.two in
+    let lower = c.store.ensures.lower ∙ cut.1 ∙ ap (λ n. take n t) g.met.W.Stored.two in
     cc

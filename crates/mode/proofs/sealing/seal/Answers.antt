@@ -1,4 +1,4 @@
-use Rattle.std.proofs.Common.{◌≡◌, ◌+◌, ◌≤◌, ◌++◌, length, Ok, ap, ◌∙◌, arith}
+use Rattle.std.proofs.Common.{◌≡◌, ◌+◌, ◌≤◌, ◌++◌, length, Ok, refl, subst, ap, ◌∙◌, arith}
 use Rattle.mixers.specs.Blocks.{over}
 use Rattle.mode.specs.Limits.{message_most}
 use Rattle.mode.specs.Sealing.{cipher_text, cipher_tag, cipher_length, seal_answer, written}
@@ -15,14 +15,15 @@ returns g c =
     let M = c.args.message.now in
     let xs = c.args.out.now in
     let m = c.in_ok-message.message in
-    let n = c.cipher_len-cipher.result in
+    let l = c.in_ok-lengths.lengths in
+    let n = cipher_length B (length M) in
     let setting : m.under.setting ≡ s = ap (λ u. u.setting) c.in_ok-message.ensures.0 ∙ c.in_ok-new.ensures in
     let bytes : m.bytes.now ≡ M = c.in_ok-message.ensures.1 in
     let admitted = admitted_by B m.under s setting in
     let limit : length M ≤ message_most = omega (arith, m.short, ap length bytes) in
-    let size : n ≡ cipher_length B (length M) = c.cipher_len-cipher.ensures ∙ ap (λ x. cipher_length B (length x)) bytes in
-    let room : cipher_length B (length M) + B ≤ length xs = omega (arith, size) in
-    let answer : Ok (n, n + B) ≡ seal_answer B s.key.now s.nonce.now s.ad.now M xs = sealable B s.key.now s.nonce.now s.ad.now M xs n admitted limit size room in
+    let both : l ≡ (n, n + B) = c.in_ok-lengths.ensures.0 ∙ ap (λ x. (cipher_length B (length x), cipher_length B (length x) + B)) bytes in
+    let room : n + B ≤ length xs = subst (λ x. cipher_length B (length x) + B ≤ length xs) bytes c.in_ok-lengths.ensures.1 in
+    let answer : Ok l ≡ seal_answer B s.key.now s.nonce.now s.ad.now M xs = ap Ok both ∙ sealable B s.key.now s.nonce.now s.ad.now M xs n admitted limit refl room in
     record {
       answer = answer;
       buffer =
@@ -30,5 +31,5 @@ returns g c =
           ∙ ap (λ v. over (cipher_text f B v.key.now v.nonce.now v.ad.now m.bytes.now ++ cipher_tag f B v.key.now v.nonce.now v.ad.now m.bytes.now) xs) setting
           ∙ ap (λ x. over (cipher_text f B s.key.now s.nonce.now s.ad.now x ++ cipher_tag f B s.key.now s.nonce.now s.ad.now x) xs) bytes
           ∙ ap (λ r. written r (cipher_text f B s.key.now s.nonce.now s.ad.now M ++ cipher_tag f B s.key.now s.nonce.now s.ad.now M) xs) answer;
-      again = opens-again f B (g.M.Mixer.mark_byte mixer) (g.M.Mixer.laws mixer) s.key.now s.nonce.now s.ad.now admitted M (n, n + B) limit size (ap (λ k. k + B) size);
+      again = opens-again f B (g.M.Mixer.mark_byte mixer) (g.M.Mixer.laws mixer) s.key.now s.nonce.now s.ad.now admitted M l limit (ap (λ p. p.0) both) (ap (λ p. p.1) both);
     }

@@ -15,4 +15,4 @@ returns g c =
     let t = trailer B ν α (8 * length M) in
     let size : length c.split_at_mut-trailer.result.1.now ≡ n = omega (arith, c.split_at_mut-trailer.ensures.back_len, c.split_at_mut-message.ensures.back_len, c.requires) in
     let zs : c.fill.new.self ≡ replicate (length c.split_at_mut-trailer.result.1.now) 0 = search rules in
-    rw (c.copy_from_slice.ensures.after, c.copy_from_slice-2.ensures.after, c.trailer.ensures, zs, size) (sym (append_assoc M t (replicate n 0)) ∙ sym (pad_message_is B ν α M))
+    rw (c.copy.ensures, c.copy_from_slice.ensures.after, c.trailer.ensures, zs, size) (sym (append_assoc M t (replicate n 0)) ∙ sym (pad_message_is B ν α M))

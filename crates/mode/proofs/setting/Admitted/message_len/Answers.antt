@@ -5,7 +5,7 @@ use Rattle.std.proofs.lemmas.Bool.{both_ways}
 use Rattle.mode.specs.Padding.{trailer}
 use Rattle.mode.specs.Sealing.{cipher_length}
 use Rattle.mode.specs.declared.setting.Admitted.{Admitted}
-use Rattle.mode.proofs.Unpads.{refused, accepted}
+use Rattle.mode.proofs.Unpads.{bounds_under, refused, accepted}
 use Rattle.mode.proofs.setting.Admitted.message_len.Goals as goal
 use Rattle.mode.proofs.setting.Admitted.message_len.Goals.{else-text-cipher_len-via-then-text-cipher_len+else-same, else-text-cipher_len-via-else-text-cipher_len}
 
@@ -21,12 +21,12 @@ tried_trailer B u v t ys k e s l =
 
 pub returns-then-end-lt-TRAILER-clause-answer : goal.returns-then-end-lt-TRAILER-clause-answer
 returns-then-end-lt-TRAILER-clause-answer g c =
-    refused g.row.B c.args.self.now c.args.text.now c.reach-end.result c.reach-end.ensures.zeros c.reach-end.ensures.last (λ E. omega (arith, E.low))
+    refused g.row.B _ _ (bounds_under g.row.B c.args.self.now) c.args.text.now c.reach-end.result c.reach-end.ensures.zeros c.reach-end.ensures.last (λ E. omega (arith, E.low))
 
 pub returns-in_default-clause-answer : goal.returns-in_default-clause-answer
 returns-in_default-clause-answer g c =
     let r = c.reach-end.result in
-    refused g.row.B c.args.self.now c.args.text.now r c.reach-end.ensures.zeros c.reach-end.ensures.last (λ E.
+    refused g.row.B _ _ (bounds_under g.row.B c.args.self.now) c.args.text.now r c.reach-end.ensures.zeros c.reach-end.ensures.last (λ E.
     omega (arith, E.high, c.in_default.ensures.0, length-take-le (r - 13) c.args.text.now (omega arith)))
 
 pub returns-then-same-clause-answer : goal.returns-then-same-clause-answer
@@ -36,7 +36,7 @@ returns-then-same-clause-answer g c =
     let part = take (r - (r - 13)) (drop (r - 13) c.args.text.now) in
     let m = c.in-Ok.message in
     let size = tried c.args.text.now m.bytes.now r c.in-Ok.ensures.1 c.reach-end.ensures.within in
-    accepted g.row.B u c.args.text.now r c.reach-end.ensures.zeros c.reach-end.ensures.within (record {
+    accepted g.row.B _ _ (bounds_under g.row.B u) c.args.text.now r c.reach-end.ensures.zeros c.reach-end.ensures.within (record {
       low = omega arith;
       high = omega (arith, m.short);
       size = c.if-text-cipher_len.true ∙ c.cipher_len.ensures ∙ ap (cipher_length g.row.B) size;
@@ -50,7 +50,7 @@ returns-else-text-cipher_len-clause-answer g c =
     let part = take (r - (r - 13)) (drop (r - 13) c.args.text.now) in
     let m = c.in-Ok.message in
     let size = tried c.args.text.now m.bytes.now r c.in-Ok.ensures.1 c.reach-end.ensures.within in
-    refused g.row.B u c.args.text.now r c.reach-end.ensures.zeros c.reach-end.ensures.last (λ E.
+    refused g.row.B _ _ (bounds_under g.row.B u) c.args.text.now r c.reach-end.ensures.zeros c.reach-end.ensures.last (λ E.
     elim c.else-text-cipher_len.branch [
       | else-text-cipher_len-via-then-text-cipher_len+else-same w ↦
           let t = tried_trailer g.row.B m.under u w.trailer.result m.bytes.now (r - 13) w.trailer.ensures c.in-Ok.ensures.0 size in

@@ -7,7 +7,7 @@ unfolding opened_blocks opened_tag
 returns g c =
     let e = c.begin-chain.ensures in
     let t = c.turn_all.ensures in
-    let C = c.copy_from_slice.ensures.after in
+    let C = c.copy.ensures in
     record {
       tag = c.tag.ensures ∙ rw (t.state, t.prev, e.state, e.prev, C);
       text = t.out ∙ rw (e.state, e.prev, C);
