@@ -1,6 +1,6 @@
 // The three mixers by name, with what tells them apart.
 ghost use Rattle.std.specs.Prelude.{◌≡◌, ◌≤◌, Some};
-ghost use Rattle.reference.specs.Names.{name_of, Reads, unknown_words};
+ghost use Rattle.reference.specs.Names.{name_of, mark_of, Reads, unknown_words};
 
 use crate::layer::{Layer, Rule, Spread};
 use crate::width::Width;
@@ -107,7 +107,9 @@ impl Kind {
     }
 
     // The mark is a byte of what is sealed, so it stays a number.
-    pub fn mark(self) -> u8 {
+    pub fn mark(self) -> u8
+        ensures { result ≡ mark_of self }
+    {
         match self {
             Kind::Narrow => 1,
             Kind::Wide => 2,

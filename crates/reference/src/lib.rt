@@ -1,6 +1,6 @@
 // A second implementation of the mixers and the mode, plain and slow, on lists of bytes. It shares no code with the
-// proved library, which is compared with it. Of this crate safety is proved, bounds of some lengths, names and codes, not what
-// it computes.
+// proved library, which is compared with it. Of this crate safety is proved, bounds of some lengths, names, marks and codes,
+// not what it computes.
 #![tactic(auto)]
 
 mod bytes;
